@@ -1,0 +1,37 @@
+-- Rust's counting loops and searches as definitions. Each clause has one recursive call, so that they compute. Assumes nothing.
+use Prim.Native.Nat.{ℕ, zero, suc}
+use lib.IntN.{ℤ, pos, sucℤ, predℤ, _+ℤ_, _-ℤ_}
+use Rattle.base.specs.Whole.{toNat}
+
+-- ---- How a turn of a loop ends: `on` goes round again, `out` is a break.
+pub data Turn (S : Type 0) : Type 0 where
+  on : S → Turn S
+  out : S → Turn S
+
+module _ {S : Type 0} where
+  -- ---- for i in i..i + n { f }
+  unfoldable pub each : (ℕ → S → S) → ℕ → ℕ → S → S
+  each f zero i s = s
+  each f (suc n) i s = each f n (suc i) (f i s)
+
+  -- ---- At most n turns, at k, k + 1, ..
+  unfoldable pub run : (ℤ → S → Turn S) → ℕ → ℤ → Turn S → S
+  run f zero k (on s) = s
+  run f zero k (out s) = s
+  run f (suc n) k (out s) = s
+  run f (suc n) k (on s) = run f n (sucℤ k) (f k s)
+
+  -- ---- let mut k = a; while k < b { f; k += 1; }
+  abbrev pub range : (ℤ → S → Turn S) → ℤ → ℤ → S → S
+  range f a b s = run f (toNat (b -ℤ a)) a (on s)
+
+  -- ---- At most n turns, at k, k - 1, ..
+  unfoldable pub runBack : (ℤ → S → Turn S) → ℕ → ℤ → Turn S → S
+  runBack f zero k (on s) = s
+  runBack f zero k (out s) = s
+  runBack f (suc n) k (out s) = s
+  runBack f (suc n) k (on s) = runBack f n (predℤ k) (f k s)
+
+  -- ---- let mut k = a; while k >= b { f; k -= 1; }
+  abbrev pub rangeBack : (ℤ → S → Turn S) → ℤ → ℤ → S → S
+  rangeBack f a b s = runBack f (toNat (a +ℤ pos 1 -ℤ b)) a (on s)

@@ -1,0 +1,45 @@
+// The refusals of document 01, and the number of each.
+ghost use mathlib.Core.Path.{_≡_};
+ghost use Rattle.base.specs.Refusals.{number as numberOf};
+
+// Why a call refuses.
+pub enum Refusal {
+    // a time outside its range
+    Time,
+    // letters or units outside their range
+    Letters,
+    // lists that belong together differ in length
+    Lengths,
+    // too many samples, words or spans, or too large a span count
+    Counts,
+    // the job file breaks its layout
+    Layout,
+    // too few places for the result or work space
+    Places,
+    // the number of levels isn't samples / 160, rounded down
+    Levels,
+    // in the pieces, a cut not beyond its piece's start
+    Cut,
+}
+
+// What the checks of a call find: nothing, or the first refusal that applies.
+pub enum Rule {
+    Fine,
+    Breaks(Refusal),
+}
+
+// Document 01's number of a refusal.
+pub fn number(r: Refusal) -> u32
+    ensures { λ n. ⌜ n ≡ numberOf r ⌝ }
+{
+    match r {
+        Refusal::Time => 1,
+        Refusal::Letters => 2,
+        Refusal::Lengths => 3,
+        Refusal::Counts => 4,
+        Refusal::Layout => 5,
+        Refusal::Places => 6,
+        Refusal::Levels => 7,
+        Refusal::Cut => 8,
+    }
+}

@@ -1,0 +1,2 @@
+-- Frames and seconds.
+pub mod Frames

@@ -1,0 +1,2 @@
+-- The number functions of ECMAScript that the word times rest on.
+pub mod Js
