@@ -1,11 +1,11 @@
 -- Bit patterns and the values that they stand for, and values by their sign. Assumes nothing.
 use mathlib.Core.Path.{_≡_, refl, sym, ap, _∙_, subst}
 use mathlib.Core.Logic.{_⊎_, inl, inr}
-use Prim.Native.Nat.{ℕ, zero, suc, _+_, _-_, _*_, _/_, _%_, _^_, _≤_, _<_}
-use native.Mathlib.Nat.{le-refl, le-trans, le-of-eq, lt-of-lt-of-le, lt-of-le-of-lt, lt-irrefl, mul-one, mul-comm, mul-assoc, mul-left-comm, mul-right-comm, mul-le-mul-right, mul-pos, mul-div-cancel, zero-add, zero-mul, add-assoc, suc-mul, eq-or-lt-of-le, mod-eq-of-lt, mul-lt-mul-of-pos-right, div-lt-iff-lt-mul, pow-succ', pow-suc, div-one, lt-of-not-le, not-le-of-lt, le-antisymm}
+use Prim.Native.Nat.{ℕ, suc, _+_, _-_, _*_, _/_, _%_, _^_, _≤_, _<_}
+use native.Mathlib.Nat.{le-refl, le-trans, le-of-eq, lt-of-lt-of-le, lt-of-le-of-lt, lt-irrefl, mul-comm, mul-assoc, mul-le-mul-right, mul-div-cancel, zero-add, suc-mul, eq-or-lt-of-le, mod-eq-of-lt, pow-succ', lt-of-not-le, not-le-of-lt, le-antisymm}
 use native.Mathlib.Omega.{arith}
-use mathlib.Core.Bool.{Bool, true, false, not, cond, true≢false}
-use lib.Dec.{T, leb, ltb, eqb, ltb→lt, not-T, eqb→eq, lit<, lit≤}
+use mathlib.Core.Bool.{Bool, true, false, not, cond}
+use lib.Dec.{T, leb, ltb, eqb, ltb→lt, not-T, eqb→eq}
 use lib.Pow.{pow-add, pow-pos, pow-mono, pow-lt, shl-lt}
 use lib.Arith.{lt→nleb}
 use lib.Ieee.{Float, nan, inf, fin, Format, binary64, prec, emax, low, up, down, size, odd, units, fits, hid, ones, top, ofFields, ofBits, toBits}
@@ -15,7 +15,7 @@ use lib.Ieee.Exact.{HasValue, odd-sign, units-val}
 use lib.Ieee.Bits.{ofBits-toBits, is-false, is-true, cond-no}
 
 -- ---- digits
-size-gt : (n j : ℕ) → 2 ^ j ≤ n → j < size n
+pub size-gt : (n j : ℕ) → 2 ^ j ≤ n → j < size n
 size-gt n j h = lt-of-not-le (λ (g : size n ≤ j). not-le-of-lt (lt-of-lt-of-le (size-lt n) (pow-mono g)) h)
 
 pub size-exact : (a n : ℕ) → 2 ^ a ≤ n → n < 2 ^ suc a → size n ≡ suc a
@@ -56,8 +56,8 @@ sizes f y k lo hi =
     (subst (λ (x : ℕ). y * 2 ^ k < 2 ^ x) (one-more (prec f) k P) (shl-lt (prec f) k hi)))
     P
 
-two-hid : (p : ℕ) → 0 < p → 2 ^ p ≡ 2 * 2 ^ (p - 1)
-two-hid p P = ap (λ (x : ℕ). 2 ^ x) (sym (same p P)) ∙ pow-succ' 2 (p - 1)
+pub pow-pred : (n p : ℕ) → 0 < p → n ^ p ≡ n * n ^ (p - 1)
+pow-pred n p P = ap (λ (x : ℕ). n ^ x) (sym (same p P)) ∙ pow-succ' n (p - 1)
   where
     same : (p : ℕ) → 0 < p → suc (p - 1) ≡ p
     same p P = omega arith
@@ -74,7 +74,7 @@ bits-low f y k lo hi = ap (λ (x : ℕ). x * hid f + y * 2 ^ k / 2 ^ x) (sizes f
 -- 2 ^ prec at k is 2 ^ (prec - 1) at k + 1
 shifted : (f : Format) (k : ℕ) → 2 ^ prec f * 2 ^ k ≡ 2 ^ (prec f - 1) * 2 ^ suc k
 shifted f k =
-    ap (λ (x : ℕ). x * 2 ^ k) (two-hid (prec f) (two-le-pos (prec f) (two f)) ∙ mul-comm 2 (2 ^ (prec f - 1)))
+    ap (λ (x : ℕ). x * 2 ^ k) (pow-pred 2 (prec f) (two-le-pos (prec f) (two f)) ∙ mul-comm 2 (2 ^ (prec f - 1)))
     ∙ mul-assoc (2 ^ (prec f - 1)) 2 (2 ^ k)
     ∙ ap (λ (x : ℕ). 2 ^ (prec f - 1) * x) (sym (pow-succ' 2 k))
 
@@ -93,7 +93,7 @@ bits-of f y k lo hi = go (eq-or-lt-of-le hi)
         ap (λ (x : ℕ). (size x - prec f) * hid f + x / 2 ^ (size x - prec f)) (ap (λ (x : ℕ). x * 2 ^ k) e ∙ shifted f k)
         ∙ bits-low f (2 ^ (prec f - 1)) (suc k) (le-refl (2 ^ (prec f - 1))) (hid-lt f)
         ∙ carry k (hid f)
-        ∙ ap (λ (x : ℕ). k * hid f + x) (sym (two-hid (prec f) (two-le-pos (prec f) (two f))) ∙ sym e)
+        ∙ ap (λ (x : ℕ). k * hid f + x) (sym (pow-pred 2 (prec f) (two-le-pos (prec f) (two f))) ∙ sym e)
 
 pub units-bits : (f : Format) (y k : ℕ) → 2 ^ (prec f - 1) ≤ y → y ≤ 2 ^ prec f → y * 2 ^ k < 2 ^ (low f + suc (emax f)) → ofBits f (k * hid f + y) ≡ units f false y k
 units-bits f y k lo hi u =

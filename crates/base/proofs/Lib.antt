@@ -1,6 +1,8 @@
 -- Laws that the crates' proofs share.
 pub mod Loops
 pub mod First
+pub mod Compare
 pub mod Bits
 pub mod Units
 pub mod Signs
+pub mod Near

@@ -2,14 +2,14 @@
 -- So a search from a negative frame is one from frame 0. Assumes nothing.
 use Prim.Native.Nat.{ℕ, zero, suc, _+_, _-_, _<_, _≤_, min, max}
 use mathlib.Core.Path.{_≡_, refl, sym, ap, _∙_}
-use mathlib.Core.Bool.{Bool, true, false, cond}
+use mathlib.Core.Bool.{Bool, true, false}
 use native.Mathlib.Omega.{arith}
-use native.Mathlib.Nat.{sub-zero, add-suc}
+use native.Mathlib.Nat.{sub-zero}
 use native.Mathlib.Numerals.{add-one}
-use lib.IntN.{ℤ, pos, negsuc, sucℤ, predℤ, _+ℤ_, _-ℤ_, subℕ, -ℤ-one, -ℤ-+ℤ-cancel}
+use lib.IntN.{ℤ, pos, negsuc, predℤ, _-ℤ_, subℕ, -ℤ-one, -ℤ-+ℤ-cancel}
 use lib.Dec.{ltb}
 use lib.Signed.{ltZ}
-use borrow.Author.Tests.{lt-ltb, le-ltb, ltb-true, ltb-false}
+use borrow.Author.Tests.{le-ltb, ltb-true, ltb-false}
 use Rattle.base.specs.Whole.{toNat, minZ, maxZ}
 use Rattle.base.specs.Loop.{Turn, on, out, each, run, range, runBack, rangeBack}
 

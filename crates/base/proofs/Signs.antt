@@ -1,10 +1,9 @@
 -- Signs and NaN: rounding a negative number mirrors rounding its size; a comparison with NaN is false. Assumes nothing.
-use mathlib.Core.Path.{_≡_, refl, sym, ap, _∙_}
+use mathlib.Core.Path.{_≡_, refl}
 use Prim.Native.Nat.{ℕ, zero, suc, _+_, _-_, _*_, _/_, _%_, _^_, compare}
-use mathlib.Core.Bool.{Bool, true, false, not, _&&_, _||_, Bool·beq, cond, true≢false}
-use lib.Dec.{T, ltb, eqb, eqb-refl}
-use lib.Ieee.{Float, nan, inf, fin, Format, prec, low, emax, lt, eq, ne, neg, isNan, round, units, odd, size, nearest, up, down}
-use lib.Ieee.Bits.{is-true}
+use mathlib.Core.Bool.{Bool, true, false, not, cond, true≢false}
+use lib.Dec.{T, ltb}
+use lib.Ieee.{Float, nan, inf, fin, Format, prec, low, emax, lt, eq, ne, neg, isNan, round, units, odd, size, nearest}
 
 pub neg-neg : (x : Float) → neg (neg x) ≡ x
 unfolding neg

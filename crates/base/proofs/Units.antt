@@ -1,14 +1,14 @@
 -- The values of a format, in units of its smallest positive value: x is a whole number of units, m * 2 ^ j with an m of at most `prec` digits.
 -- Assumes nothing.
 use mathlib.Core.Path.{_≡_, refl, sym, ap, _∙_, subst}
-use Prim.Native.Nat.{ℕ, zero, suc, _+_, _-_, _*_, _/_, _%_, _^_, _≤_, _<_}
-use native.Mathlib.Nat.{le-trans, le-of-eq, le-of-suc-le-suc, lt-of-lt-of-le, lt-of-le-of-lt, lt-of-not-le, lt-irrefl, mul-one, zero-mul, mul-comm, mul-assoc, mul-right-comm, mul-pos, mul-lt-mul-of-pos-right, lt-of-mul-lt-mul-right, eq-of-mul-eq-mul-right}
+use Prim.Native.Nat.{ℕ, zero, suc, _+_, _-_, _*_, _%_, _^_, _≤_, _<_}
+use native.Mathlib.Nat.{le-of-eq, le-of-suc-le-suc, lt-of-lt-of-le, lt-of-le-of-lt, lt-of-not-le, lt-irrefl, mul-one, zero-mul, mul-comm, mul-assoc, mul-right-comm, mul-lt-mul-of-pos-right, lt-of-mul-lt-mul-right, eq-of-mul-eq-mul-right}
 use native.Mathlib.Omega.{arith}
-use mathlib.Core.Bool.{false, _&&_}
+use mathlib.Core.Bool.{Bool, false, _&&_}
 use lib.IntN.{ℤ, pos, negsuc}
 use lib.Dec.{T, leb, ltb, eqb, ltb→lt, leb→le}
 use lib.Pow.{pow-add, pow-pos, pow-mono, pow-lt, shl-lt}
-use lib.Ieee.{Float, nan, inf, fin, Format, prec, emax, low, up, down, fits, ofBits, toBits}
+use lib.Ieee.{Float, nan, inf, fin, Format, prec, emax, low, up, down, fits, ofBits}
 use lib.Ieee.Fits.{two, two-le-pos, down-pos, and-l, and-r}
 use lib.Ieee.Bits.{ofBits-toBits}
 use lib.Ieee.Exact.{HasValue}
@@ -84,3 +84,15 @@ in-range f (fin s (suc m) e) n t h =
 
 pub same-value : (f : Format) (u v : Float) (n : ℕ) → T (fits f u) → T (fits f v) → HasValue u false n (2 ^ low f) → HasValue v false n (2 ^ low f) → u ≡ v
 same-value f u v n fu fv hu hv = sym (ofBits-toBits f u fu) ∙ ap (ofBits f) (toBits-val f u n hu ∙ sym (toBits-val f v n hv)) ∙ ofBits-toBits f v fv
+
+-- ---- a finite value is a whole number of units
+pub in-units : (f : Format) (s : Bool) (m : ℕ) (e : ℤ) → T (fits f (fin s m e)) → (n : ℕ) × HasValue (fin s m e) s n (2 ^ low f)
+unfolding fits
+in-units f s zero e t = (0, (refl, ap (λ (x : ℕ). x * 2 ^ low f) (zero-mul (up e)) ∙ zero-mul (2 ^ low f) ∙ sym (zero-mul (down e))))
+in-units f s (suc m) (pos k) t = (suc m * 2 ^ k * 2 ^ low f, (refl, sym (mul-one (suc m * 2 ^ k * 2 ^ low f))))
+in-units f s (suc m) (negsuc k) t =
+    let a = eqb (suc m % 2) 1 && ltb (suc m) (2 ^ prec f) in
+    let c = leb (2 ^ suc k) (2 ^ low f) in
+    let d = ltb (suc m * 1) (2 ^ suc (emax f) * 2 ^ suc k) in
+    let h : suc k ≤ low f = pow-le-back (suc k) (low f) (leb→le (2 ^ suc k) (2 ^ low f) (and-r a c (and-l (a && c) d t))) in
+    (suc m * 1 * 2 ^ (low f - suc k), (refl, ap (λ (x : ℕ). suc m * 1 * x) (pow-split (low f) (suc k) h) ∙ sym (mul-assoc (suc m * 1) (2 ^ (low f - suc k)) (2 ^ suc k))))

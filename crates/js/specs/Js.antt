@@ -1,6 +1,6 @@
 -- js.rs: ECMAScript's Math.min, Math.max and Number.prototype.toFixed with three decimals, read back as a number. Assumes nothing.
-use Prim.Native.Nat.{ℕ, suc, _*_, _/_, _%_, _^_}
-use mathlib.Core.Bool.{Bool, true, false, cond, not, _&&_, _||_}
+use Prim.Native.Nat.{ℕ, _+_, _*_, _/_, _%_, _^_}
+use mathlib.Core.Bool.{Bool, false, cond, not, _&&_, _||_}
 use lib.Dec.{leb, ltb}
 use lib.Ieee.{Float, nan, inf, fin, binary64, isNan, lt, eq, round, up, down}
 
@@ -24,7 +24,7 @@ jsMax a b = cond (isNan a || isNan b) nan (cond (under a b) b a)
 
 -- ---- The whole number nearest to a / b, of two the larger. Its law `nearestUp-best` says so.
 unfoldable pub nearestUp : ℕ → ℕ → ℕ
-nearestUp a b = cond (ltb (a % b * 2) b) (a / b) (suc (a / b))
+nearestUp a b = cond (ltb (a % b * 2) b) (a / b) (a / b + 1)
 
 -- ---- Number.prototype.toFixed (ECMAScript, 21.1.3.3) with three decimals, read back. x is ±a / b.
 -- "If x is not finite", x. "If x < 0": "-", and x is -x. "If x ≥ 10^21", x. Else "let n be an integer for which n / 10^f - x is as

@@ -1,2 +1,0 @@
--- Frames and seconds.
-pub mod Frames

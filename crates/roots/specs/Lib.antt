@@ -1,0 +1,3 @@
+-- IEEE 754's square root, and what the code's parts promise each other.
+pub mod Sqrt
+pub mod Parts
