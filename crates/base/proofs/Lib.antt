@@ -1,5 +1,6 @@
 -- Laws that the crates' proofs share.
 pub mod Loops
+pub mod Lists
 pub mod First
 pub mod Compare
 pub mod Bits

@@ -63,6 +63,12 @@ module _ {S : Type 0} where
   unfolding each
   each-done f e i s h = let h′ : e - i ≡ 0 = omega arith in rw h′
 
+  -- what each turn keeps, the loop keeps
+  pub each-keeps : {A : Type 0} (o : S → A) (f : ℕ → S → S) → ((i : ℕ) (s : S) → o (f i s) ≡ o s) → (n i : ℕ) (s : S) → o (each f n i s) ≡ o s
+  unfolding each
+  each-keeps o f keeps zero i s = refl
+  each-keeps o f keeps (suc n) i s = each-keeps o f keeps n (suc i) (f i s) ∙ keeps i s
+
   module _ (f : ℤ → S → Turn S) where
     pub run-out : (n : ℕ) (k : ℤ) (s : S) → run f n k (out s) ≡ s
     unfolding run

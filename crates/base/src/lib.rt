@@ -1,4 +1,4 @@
-// The refusals of document 01, and the number of each.
+// What every part shares: the refusals of document 01 with their numbers, and a word's times.
 ghost use mathlib.Core.Path.{_≡_};
 ghost use Rattle.base.specs.Refusals.{number as numberOf};
 
@@ -26,6 +26,12 @@ pub enum Refusal {
 pub enum Rule {
     Fine,
     Breaks(Refusal),
+}
+
+// A word's two times, in seconds: they travel together.
+pub struct Times {
+    pub start: f64,
+    pub end: f64,
 }
 
 // Document 01's number of a refusal.

@@ -1,0 +1,2 @@
+-- The worked examples that document 01 marks with ●, as equations about the definitions.
+pub mod Table

@@ -1,0 +1,1 @@
+// The worked examples that document 01 marks: theorems alone.
