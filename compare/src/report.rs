@@ -1,0 +1,93 @@
+//! Runs a comparison over every core, and prints what it found.
+
+use std::sync::Mutex;
+use std::sync::atomic::{AtomicU64, Ordering};
+use std::thread;
+
+use crate::inputs::Random;
+
+/// What is compared: it answers, for a case, what differs there, or nothing.
+pub trait Compared: Sync {
+    fn name(&self) -> &str;
+    /// The limit cases, each once.
+    fn limits(&self) -> Vec<Option<String>>;
+    /// One case that the generator draws.
+    fn random(&self, random: &mut Random) -> Option<String>;
+}
+
+/// The random cases come in this many parts, each with a generator of its own, so that they are
+/// the same on every number of cores.
+const PARTS: u64 = 256;
+/// So many differences are printed.
+const SHOWN: usize = 5;
+
+#[derive(Default)]
+struct Found {
+    compared: u64,
+    differences: u64,
+    /// The first differences, with the place of each: the part, and the case in it.
+    shown: Vec<(u64, u64, String)>,
+}
+
+impl Found {
+    fn case(&mut self, part: u64, difference: Option<String>) {
+        self.compared += 1;
+        let Some(text) = difference else { return };
+        self.differences += 1;
+        if self.shown.len() < SHOWN {
+            self.shown.push((part, self.compared, text));
+        }
+    }
+
+    fn join(&mut self, other: Found) {
+        self.compared += other.compared;
+        self.differences += other.differences;
+        self.shown.extend(other.shown);
+        self.shown.sort();
+        self.shown.truncate(SHOWN);
+    }
+}
+
+fn part(entry: &dyn Compared, seed: u64, cases: u64, part: u64) -> Found {
+    let mut found = Found::default();
+    let mut random = Random::new(seed, part);
+    for _ in 0..cases / PARTS + u64::from(part <= cases % PARTS) {
+        found.case(part, entry.random(&mut random));
+    }
+    found
+}
+
+/// Compares the limit cases and `cases` random ones. Prints a line, and answers whether all agree.
+pub fn compare(entry: &dyn Compared, seed: u64, cases: u64) -> bool {
+    let mut limits = Found::default();
+    for difference in entry.limits() {
+        limits.case(0, difference);
+    }
+    let found = Mutex::new(limits);
+    let next = AtomicU64::new(1);
+    thread::scope(|scope| {
+        for _ in 0..thread::available_parallelism().map_or(1, usize::from) {
+            scope.spawn(|| {
+                loop {
+                    let at = next.fetch_add(1, Ordering::Relaxed);
+                    if at > PARTS {
+                        break;
+                    }
+                    let more = part(entry, seed, cases, at);
+                    found.lock().unwrap().join(more);
+                }
+            });
+        }
+    });
+    let found = found.into_inner().unwrap();
+    println!(
+        "{:<16} {:>12} compared {:>12} different",
+        entry.name(),
+        found.compared,
+        found.differences
+    );
+    for (_, _, text) in &found.shown {
+        println!("    {text}");
+    }
+    found.differences == 0
+}

@@ -1,0 +1,6 @@
+-- Laws of frames. Other crates cite those of `Indices`.
+mod Values
+mod Signed
+mod Rounding
+mod Times
+pub mod Indices

@@ -1,0 +1,3 @@
+-- Frames and seconds.
+pub mod Frames
+pub mod Parts

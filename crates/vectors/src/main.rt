@@ -1,0 +1,204 @@
+// Replays stored answers: a JavaScript engine's toFixed, min and max, and exact roots and frames
+// (compare/README.md says how they were made). Standard input has a row of 53 bytes for each:
+//
+//     K AAAAAAAAAAAAAAAA BBBBBBBBBBBBBBBB RRRRRRRRRRRRRRRR
+//
+// K is the kind, A and B are the inputs and R is the answer, in upper-case hexadecimal digits: the
+// bits of a double, or a whole number in two's complement. Any NaN stands for every NaN. The kind X
+// has one row, with an answer of toFixed that is one step off on purpose, so that the output shows
+// that a wrong answer is seen.
+ghost use mathlib.Core.Path.{_≡_};
+ghost use Prim.Native.Nat.{_+_, _≤_};
+ghost use lib.Ieee.{binary64, nanBits};
+use libc::STDIN_FILENO;
+use libc::STDOUT_FILENO;
+
+// The places of a tally: one for each kind of row, and the last for what is no row.
+const PLACES: usize = 10;
+
+const UNREADABLE: usize = 9;
+
+// The place of a kind in a tally.
+fn place(kind: u8) -> usize {
+    match kind {
+        b'F' => 0,
+        b'L' => 1,
+        b'H' => 2,
+        b'S' => 3,
+        b'A' => 4,
+        b'C' => 5,
+        b'Z' => 6,
+        b'T' => 7,
+        b'X' => 8,
+        _ => UNREADABLE,
+    }
+}
+
+// A number read from its digits. Where a byte is none, `seen` is above 15.
+struct Digits {
+    bits: u64,
+    seen: u64,
+}
+
+// The value of an upper-case hexadecimal digit, or 16 for any other byte.
+fn digit(c: u8) -> u64 {
+    match c {
+        b'0'..=b'9' => (c - 48) as u64,
+        b'A'..=b'F' => (c - 55) as u64,
+        _ => 16,
+    }
+}
+
+// The number of the 16 digits from `at` on.
+fn number(row: &[u8; 53], at: usize) -> Digits
+    requires { ⌜ at + 16 ≤ 53 ⌝ }
+{
+    let mut bits = 0u64;
+    let mut seen = 0u64;
+    let end = at + 16;
+    let mut i = at;
+    while i < end {
+        let d = digit(row[i]);
+        bits = (bits << 4) | d;
+        seen = seen | d;
+        i += 1;
+    }
+    Digits {
+        bits: bits,
+        seen: seen,
+    }
+}
+
+// Whether the bits are a NaN's.
+fn is_nan(bits: u64) -> bool
+    ensures { λ r. ⌜ r ≡ nanBits binary64 bits ⌝ }
+{
+    bits % 0x8000_0000_0000_0000 > 0x7ff0_0000_0000_0000
+}
+
+// The double of these bits.
+fn float(bits: u64) -> f64 {
+    if is_nan(bits) {
+        return 0.0 / 0.0;
+    }
+    f64::from_bits(bits)
+}
+
+// The whole number of these bits, in two's complement.
+fn whole(bits: u64) -> i64 {
+    if bits < 0x8000_0000_0000_0000 {
+        return bits as i64;
+    }
+    -1 - ((0xffff_ffff_ffff_ffff - bits) as i64)
+}
+
+// Whether x has these bits, or both are NaN.
+fn same(x: f64, bits: u64) -> bool {
+    if x != x {
+        return is_nan(bits);
+    }
+    f64::to_bits(x) == bits
+}
+
+// Whether r is the answer for a and b, for each kind of row.
+fn is_right(kind: u8, a: u64, b: u64, r: u64) -> bool {
+    match kind {
+        b'F' | b'X' => same(js::js_to_fixed(float(a)), r),
+        b'L' => same(js::js_min(float(a), float(b)), r),
+        b'H' => same(js::js_max(float(a), float(b)), r),
+        b'S' => same(roots::sqrt(float(a)), r),
+        b'A' => frames::frame_at(float(a)) == whole(r),
+        b'C' => frames::frame_ceil(float(a)) == whole(r),
+        b'Z' => frames::frame_from_zero(float(a)) == whole(r),
+        b'T' => same(frames::frame_seconds(whole(a)), r),
+        _ => false,
+    }
+}
+
+// Adds one at a place of a tally.
+fn add(tally: &mut [u64; 10], at: usize) {
+    if at < PLACES {
+        if tally[at] < u64::MAX {
+            tally[at] += 1;
+        }
+    }
+}
+
+// Whether the row has spaces before its numbers and a line end after them.
+fn is_spaced(row: &[u8; 53]) -> bool {
+    row[1] == b' ' && row[18] == b' ' && row[35] == b' ' && row[52] == b'\n'
+}
+
+// The second input: only min and max have one.
+fn second(row: &[u8; 53]) -> Digits {
+    if row[0] == b'L' || row[0] == b'H' {
+        return number(row, 19);
+    }
+    Digits { bits: 0, seen: 0 }
+}
+
+// Counts a row, and counts it as wrong where its answer is.
+fn judge(row: &[u8; 53], compared: &mut [u64; 10], wrong: &mut [u64; 10]) {
+    let a = number(row, 2);
+    let b = second(row);
+    let r = number(row, 36);
+    if (a.seen | b.seen | r.seen) > 15 || !is_spaced(row) {
+        add(compared, UNREADABLE);
+        return;
+    }
+    add(compared, place(row[0]));
+    if !is_right(row[0], a.bits, b.bits, r.bits) {
+        add(wrong, place(row[0]));
+    }
+}
+
+// Reads one row and judges it; answers whether to go on.
+fn take_row(compared: &mut [u64; 10], wrong: &mut [u64; 10]) -> bool {
+    let mut row = [0u8; 53];
+    let n = io::read_full(STDIN_FILENO, &mut row);
+    if n == 0 {
+        return false;
+    }
+    if n < 53 {
+        add(compared, UNREADABLE);
+        return false;
+    }
+    judge(&row, compared, wrong);
+    true
+}
+
+// Judges every row. A proved loop has to end, and nothing says that the input does, so it counts
+// its turns down from a number that no run uses up.
+fn take_all(compared: &mut [u64; 10], wrong: &mut [u64; 10]) {
+    let mut turns = u64::MAX;
+    while turns > 0 && take_row(compared, wrong) {
+        turns -= 1;
+    }
+}
+
+// Writes a line for one kind.
+fn print_line(name: &[u8], compared: u64, wrong: u64) {
+    io::write_all(STDOUT_FILENO, name);
+    io::print_decimal(STDOUT_FILENO, compared);
+    io::write_all(STDOUT_FILENO, b" compared, ");
+    io::print_decimal(STDOUT_FILENO, wrong);
+    io::write_all(STDOUT_FILENO, b" wrong\n");
+}
+
+fn main() {
+    let mut compared = [0u64; 10];
+    let mut wrong = [0u64; 10];
+    take_all(&mut compared, &mut wrong);
+    print_line(b"toFixed ", compared[0], wrong[0]);
+    print_line(b"min ", compared[1], wrong[1]);
+    print_line(b"max ", compared[2], wrong[2]);
+    print_line(b"sqrt ", compared[3], wrong[3]);
+    print_line(b"frame at ", compared[4], wrong[4]);
+    print_line(b"frame ceil ", compared[5], wrong[5]);
+    print_line(b"frame from zero ", compared[6], wrong[6]);
+    print_line(b"frame seconds ", compared[7], wrong[7]);
+    print_line(b"planted ", compared[8], wrong[8]);
+    io::write_all(STDOUT_FILENO, b"unreadable ");
+    io::print_decimal(STDOUT_FILENO, compared[9]);
+    io::write_all(STDOUT_FILENO, b"\n");
+}
