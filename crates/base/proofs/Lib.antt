@@ -7,3 +7,4 @@ pub mod Bits
 pub mod Units
 pub mod Signs
 pub mod Near
+pub mod Values

@@ -1,5 +1,4 @@
 -- Laws of frames. Other crates cite those of `Indices`.
-mod Values
 mod Signed
 mod Rounding
 mod Times

@@ -12,7 +12,7 @@ use borrow.Author.Tests.{ltb-true, ltb-false, lt-ltb, le-ltb}
 use lib.Ieee.{Float, nan, inf, fin, binary64, emax, low, fits, lt, neg, ofInt, round, size, span, climb, units, odd, toUnsigned, up, down}
 use lib.Ieee.Fits.{down-pos, and-l, and-r}
 use Rattle.base.specs.Whole.{toNat}
-use Rattle.frames.proofs.Values.{whole-int, lt-whole}
+use Rattle.base.proofs.Values.{whole-int, lt-whole}
 use Rattle.frames.specs.Frames.{saturate, floorI64, ceilI64}
 use Rattle.frames.specs.Parts.{ceilUnsigned}
 

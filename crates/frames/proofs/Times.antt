@@ -13,7 +13,7 @@ use borrow.Author.Tests.{le-ltb}
 use lib.Ieee.{Float, nan, inf, fin, Format, binary64, prec, emax, low, up, down, round, neg, add, mul, div, ofBits, ofInt}
 use lib.Ieee.Exact.{round-exact}
 use Rattle.base.proofs.Signs.{neg-neg, round-neg}
-use Rattle.frames.proofs.Values.{Whole, whole-value, whole-int, mul-whole, add-whole}
+use Rattle.base.proofs.Values.{Whole, whole-value, whole-int, mul-whole, add-whole}
 use Rattle.frames.specs.Frames.{rate, frameSeconds}
 
 module _ (f : Format) where

@@ -4,9 +4,9 @@ use mathlib.Core.Path.{_≡_, refl, sym, ap, _∙_, subst}
 use mathlib.Core.Logic.{_⊎_, inl, inr}
 use mathlib.Core.Bool.{Bool, true, false, cond, not, _&&_, _||_, Bool·beq}
 use Prim.Native.Nat.{ℕ, suc, _+_, _-_, _*_, _^_, _≤_, _<_, max}
-use native.Mathlib.Nat.{mul-comm, mul-assoc, mul-right-comm, mul-pos, zero-mul, add-mul, mul-lt-mul-of-pos-right, lt-of-mul-lt-mul-right, mul-le-mul-right, le-of-mul-le-mul-right, eq-of-mul-eq-mul-right, le-of-eq}
+use native.Mathlib.Nat.{mul-comm, mul-assoc, mul-right-comm, mul-pos, zero-mul, add-mul, le-of-eq}
 use native.Mathlib.Omega.{arith}
-use borrow.Author.Tests.{ltb-true, ltb-false, lt-ltb, le-ltb, eqb-true, eqb-false, eq-eqb, ne-eqb}
+use borrow.Author.Tests.{ltb-true, ltb-false, lt-ltb, le-ltb, eq-eqb, ne-eqb}
 use lib.IntN.{ℤ}
 use lib.Dec.{T, ltb, eqb}
 use lib.Pow.{pow-pos}
@@ -14,40 +14,33 @@ use lib.Ieee.{Float, nan, inf, fin, Format, binary64, low, emax, up, down, fits,
 use lib.Ieee.Exact.{HasValue}
 use lib.Ieee.Fits.{down-pos, neg-fits}
 use lib.Ieee.Scale.{overflow}
+use Rattle.base.proofs.Compare.{ltb-scale, eqb-scale}
 use Rattle.base.proofs.Signs.{neg-neg}
 use Rattle.base.proofs.Units.{in-units, in-range, same-value}
 use Rattle.js.specs.Js.{negative, under, jsMax}
 
 -- ---- comparing in units: a * c is m * k, and b * c is n * k
 module _ (a b m n c k : ℕ) (C : 0 < c) (K : 0 < k) (ea : a * c ≡ m * k) (eb : b * c ≡ n * k) where
-  ltb-scale : ltb a b ≡ ltb m n
-  ltb-scale = go (ltb m n) refl
-    where
-      go : (t : Bool) → ltb m n ≡ t → ltb a b ≡ ltb m n
-      go true t = lt-ltb a b (lt-of-mul-lt-mul-right c (subst (λ (x : ℕ). x < b * c) (sym ea) (subst (λ (x : ℕ). m * k < x) (sym eb) (mul-lt-mul-of-pos-right (ltb-true m n t) K)))) ∙ sym t
-      go false t = le-ltb a b (le-of-mul-le-mul-right (subst (λ (x : ℕ). x ≤ a * c) (sym eb) (subst (λ (x : ℕ). n * k ≤ x) (sym ea) (mul-le-mul-right k (ltb-false m n t)))) C) ∙ sym t
+  ltb-units : ltb a b ≡ ltb m n
+  ltb-units = sym (ltb-scale a b c C) ∙ rw (ea, eb) (ltb-scale m n k K)
 
-  eqb-scale : eqb a b ≡ eqb m n
-  eqb-scale = go (eqb m n) refl
-    where
-      go : (t : Bool) → eqb m n ≡ t → eqb a b ≡ eqb m n
-      go true t = eq-eqb a b (eq-of-mul-eq-mul-right c C a b (ea ∙ ap (λ (x : ℕ). x * k) (eqb-true m n t) ∙ sym eb)) ∙ sym t
-      go false t = ne-eqb a b (λ (e : a ≡ b). eqb-false m n t (eq-of-mul-eq-mul-right k K m n (sym ea ∙ ap (λ (x : ℕ). x * c) e ∙ eb))) ∙ sym t
+  eqb-units : eqb a b ≡ eqb m n
+  eqb-units = sym (eqb-scale a b c C) ∙ rw (ea, eb) (eqb-scale m n k K)
 
 module _ (a b m n c k : ℕ) (C : 0 < c) (K : 0 < k) (ea : a * c ≡ m * k) (eb : b * c ≡ n * k) where
   none : 0 * c ≡ 0 * k
   none = zero-mul c ∙ sym (zero-mul k)
 
   below-scale : (s t : Bool) → below s a t b ≡ below s m t n
-  below-scale false false = ltb-scale a b m n c k C K ea eb
+  below-scale false false = ltb-units a b m n c k C K ea eb
   below-scale false true = refl
-  below-scale true false = ltb-scale 0 (a + b) 0 (m + n) c k C K none (add-mul a b c ∙ ap (λ (x : ℕ). x + b * c) ea ∙ ap (λ (x : ℕ). m * k + x) eb ∙ sym (add-mul m n k))
-  below-scale true true = ltb-scale b a n m c k C K eb ea
+  below-scale true false = ltb-units 0 (a + b) 0 (m + n) c k C K none (add-mul a b c ∙ ap (λ (x : ℕ). x + b * c) ea ∙ ap (λ (x : ℕ). m * k + x) eb ∙ sym (add-mul m n k))
+  below-scale true true = ltb-units b a n m c k C K eb ea
 
   level-scale : (s t : Bool) → level s a t b ≡ level s m t n
   level-scale s t =
-      ap (λ (x : Bool). x && (Bool·beq s t || eqb a 0)) (eqb-scale a b m n c k C K ea eb)
-      ∙ ap (λ (x : Bool). eqb m n && (Bool·beq s t || x)) (eqb-scale a 0 m 0 c k C K ea none)
+      ap (λ (x : Bool). x && (Bool·beq s t || eqb a 0)) (eqb-units a b m n c k C K ea eb)
+      ∙ ap (λ (x : Bool). eqb m n && (Bool·beq s t || x)) (eqb-units a 0 m 0 c k C K ea none)
 
 -- ---- a number's sign and size, in units; an infinity lies where the format ends
 abbrev At : Format → Float → Bool → ℕ → Type 0

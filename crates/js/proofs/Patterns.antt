@@ -9,12 +9,10 @@ use borrow.Author.Tests.{lt-ltb, le-ltb, leb-false}
 use lib.IntN.{pos}
 use lib.Dec.{T, leb, eqb, lit<, lit≤}
 use lib.Pow.{pow-add, pow-pos, pow-mono, pow-lt}
-use lib.Ieee.{Float, nan, inf, fin, Format, binary64, prec, low, up, down, top, ones, odd, ofFields, ofBits, toBits, fits, isNan, lt, div, round, ofInt}
+use lib.Ieee.{Float, nan, inf, fin, Format, binary64, prec, low, top, ones, odd, ofFields, ofBits, toBits, fits, isNan, lt, div, round, ofInt}
 use lib.Ieee.Bits.{ofBits-toBits, ofBits-fits}
 use lib.Ieee.Exact.{HasValue}
-use lib.Ieee.Fits.{down-pos}
-use lib.Ieee.Back.{round-whole}
-use lib.Ieee.Scale.{round-same}
+use Rattle.base.proofs.Values.{whole-int, whole-value, div-whole}
 use Rattle.base.proofs.Bits.{decode, fields-top, value-low, value-mid}
 use Rattle.js.specs.Js.{negative, nearestUp, jsToFixed}
 use Rattle.js.proofs.ToFixed.{zeroF, fixed-below, fixed-none, fixed-large, nearestUp-same}
@@ -150,13 +148,4 @@ module _ (m c u : ℕ) (e : u ≡ 2 ^ c) (M : m < 2 ^ 53) (C : 10 ≤ c) where
 
 -- ---- n / 1000 in f64
 pub thousandth : (n : ℕ) → n ≤ 2 ^ 53 → div binary64 (ofInt binary64 (pos n)) (fin false 125 (pos 3)) ≡ round binary64 false n 1000
-unfolding ofInt div
-thousandth n h = go (round binary64 false n 1) (round-whole binary64 false n h)
-  where
-    go : (y : Float) → HasValue y false n 1 → div binary64 y (fin false 125 (pos 3)) ≡ round binary64 false n 1000
-    go nan v = absurd v
-    go (inf s) v = absurd v
-    go (fin true m e) v = absurd (true≢false (v .0))
-    go (fin false m e) v =
-        round-same binary64 false (m * up e * 1) (125 * 2 ^ 3 * down e) n 1000 (omega (arith, down-pos e)) (lit< tt)
-        (ap (λ (z : ℕ). z * 1000) (v .1) ∙ mul-assoc n (down e) 1000 ∙ ap (λ (z : ℕ). n * z) (mul-comm (down e) 1000))
+thousandth n h = div-whole binary64 (whole-int binary64 n h) (whole-value (fin false 125 (pos 3)) 1000 (refl, refl)) (lit< tt)
