@@ -1,27 +1,20 @@
--- Math.min and Math.max, case by case as the code has them: by the comparison of the two, and where they compare equal by the sign of the first.
+-- Math.max, case by case as the code has it: by the comparison of the two, and where they compare equal by the sign of the first.
 -- Assumes nothing.
-use mathlib.Core.Path.{_≡_, refl, sym, _∙_}
-use mathlib.Core.Bool.{Bool, true, false, cond, not, _&&_, _||_, true≢false}
+use mathlib.Core.Path.{_≡_, refl, sym, _∙_, subst}
+use mathlib.Core.Bool.{Bool, true, false, cond, not, _&&_, _||_, Bool·beq, true≢false}
 use Prim.Native.Nat.{ℕ, _+_, _*_, _^_, _≤_, _<_}
 use native.Mathlib.Omega.{arith}
-use borrow.Author.Tests.{ltb-false, eqb-false, lt-leb, le-leb}
+use borrow.Author.Tests.{le-ltb, eqb-true, lt-leb, le-leb}
 use lib.Dec.{T, eqb}
-use lib.Ieee.{Float, nan, inf, fin, binary64, up, down, fits, isNan, lt, eq, add, below, level, toBits}
-use Rattle.js.specs.Js.{negative, under, jsMin, jsMax}
+use lib.Ieee.{Float, nan, inf, fin, binary64, up, down, fits, isNan, lt, eq, ne, below, level, toBits}
+use lib.Ieee.Bits.{is-false}
+use lib.Ieee.Compare.{differs-from-itself}
+use Rattle.base.proofs.Signs.{no-nan}
+use Rattle.js.specs.Js.{negative, under, jsMax}
 use Rattle.js.proofs.Patterns.{sign-bit}
-use Rattle.js.proofs.Order.{Number, under-asym, under-total}
+use Rattle.js.proofs.Order.{Number, under-total}
 
--- ---- what a comparison says of NaN
-lt-numbers : (x y : Float) → lt x y ≡ true → T (not (isNan x)) × T (not (isNan y))
-unfolding lt isNan
-lt-numbers nan y h = absurd (true≢false (sym h))
-lt-numbers (inf s) nan h = absurd (true≢false (sym h))
-lt-numbers (inf s) (inf t) h = (tt, tt)
-lt-numbers (inf s) (fin t n d) h = (tt, tt)
-lt-numbers (fin s m e) nan h = absurd (true≢false (sym h))
-lt-numbers (fin s m e) (inf t) h = (tt, tt)
-lt-numbers (fin s m e) (fin t n d) h = (tt, tt)
-
+-- ---- two that compare equal are numbers, and neither is below the other
 pub eq-numbers : (x y : Float) → eq x y ≡ true → T (not (isNan x)) × T (not (isNan y))
 unfolding eq isNan
 eq-numbers nan y h = absurd (true≢false (sym h))
@@ -32,165 +25,113 @@ eq-numbers (fin s m e) nan h = absurd (true≢false (sym h))
 eq-numbers (fin s m e) (inf t) h = absurd (true≢false (sym h))
 eq-numbers (fin s m e) (fin t n d) h = (tt, tt)
 
--- two numbers are below, above or equal
-trichotomy : (s t : Bool) (a b : ℕ) → below s a t b ≡ false → below t b s a ≡ false → level s a t b ≡ false → ⊥
-trichotomy false false a b p q r = same (eqb a b) refl r
-  where
-    same : (c : Bool) → eqb a b ≡ c → (c && true) ≡ false → ⊥
-    same true c h = true≢false h
-    same false c h = eqb-false a b c (omega (arith, ltb-false a b p, ltb-false b a q))
-trichotomy true true a b p q r = same (eqb a b) refl r
-  where
-    same : (c : Bool) → eqb a b ≡ c → (c && true) ≡ false → ⊥
-    same true c h = true≢false h
-    same false c h = eqb-false a b c (omega (arith, ltb-false b a p, ltb-false a b q))
-trichotomy true false a b p q r = zeros a b (omega (arith, ltb-false 0 (a + b) p)) (omega (arith, ltb-false 0 (a + b) p)) r
-  where
-    zeros : (a b : ℕ) → a ≡ 0 → b ≡ 0 → level true a false b ≡ false → ⊥
-    zeros a b x y h = true≢false (rw (x, y) at h)
-trichotomy false true a b p q r = zeros a b (omega (arith, ltb-false 0 (b + a) q)) (omega (arith, ltb-false 0 (b + a) q)) r
-  where
-    zeros : (a b : ℕ) → a ≡ 0 → b ≡ 0 → level false a true b ≡ false → ⊥
-    zeros a b x y h = true≢false (rw (x, y) at h)
+and-true : (a b : Bool) → (a && b) ≡ true → (a ≡ true) × (b ≡ true)
+and-true true b h = (refl, h)
+and-true false b h = absurd (true≢false (sym h))
 
-neither : (x y : Float) → lt x y ≡ false → lt y x ≡ false → eq x y ≡ false → (isNan x || isNan y) ≡ true
-unfolding lt eq isNan
-neither nan y p q r = refl
-neither (inf s) nan p q r = refl
-neither (fin s m e) nan p q r = refl
-neither (inf true) (inf true) p q r = absurd (true≢false r)
-neither (inf false) (inf false) p q r = absurd (true≢false r)
-neither (inf true) (inf false) p q r = absurd (true≢false p)
-neither (inf false) (inf true) p q r = absurd (true≢false q)
-neither (inf true) (fin t n d) p q r = absurd (true≢false p)
-neither (inf false) (fin t n d) p q r = absurd (true≢false q)
-neither (fin s m e) (inf true) p q r = absurd (true≢false q)
-neither (fin s m e) (inf false) p q r = absurd (true≢false p)
-neither (fin s m e) (fin t n d) p q r = absurd (trichotomy s t (m * up e * down d) (n * up d * down e) p q r)
+level-below : (s t : Bool) (a b : ℕ) → level s a t b ≡ true → (below s a t b ≡ false) × (below t b s a ≡ false)
+level-below s t a b h =
+    let k = and-true (eqb a b) (Bool·beq s t || eqb a 0) h in
+    let e : a ≡ b = eqb-true a b (k .0) in
+    go s t e (k .1)
+  where
+    go : (s t : Bool) → a ≡ b → (Bool·beq s t || eqb a 0) ≡ true → (below s a t b ≡ false) × (below t b s a ≡ false)
+    go false false e z = (le-ltb a b (omega arith), le-ltb b a (omega arith))
+    go true true e z = (le-ltb b a (omega arith), le-ltb a b (omega arith))
+    go true false e z = (le-ltb 0 (a + b) (omega (arith, eqb-true a 0 z)), refl)
+    go false true e z = (refl, le-ltb 0 (b + a) (omega (arith, eqb-true a 0 z)))
 
-add-nan : (x y : Float) → (isNan x || isNan y) ≡ true → add binary64 x y ≡ nan
-unfolding isNan add
-add-nan nan y h = refl
-add-nan (inf s) nan h = refl
-add-nan (inf s) (inf t) h = absurd (true≢false (sym h))
-add-nan (inf s) (fin t n d) h = absurd (true≢false (sym h))
-add-nan (fin s m e) nan h = refl
-add-nan (fin s m e) (inf t) h = absurd (true≢false (sym h))
-add-nan (fin s m e) (fin t n d) h = absurd (true≢false (sym h))
+eq-below : (x y : Float) → eq x y ≡ true → (lt x y ≡ false) × (lt y x ≡ false)
+unfolding eq lt
+eq-below nan y h = absurd (true≢false (sym h))
+eq-below (inf s) nan h = absurd (true≢false (sym h))
+eq-below (inf true) (inf true) h = (refl, refl)
+eq-below (inf false) (inf false) h = (refl, refl)
+eq-below (inf true) (inf false) h = absurd (true≢false (sym h))
+eq-below (inf false) (inf true) h = absurd (true≢false (sym h))
+eq-below (inf s) (fin t n d) h = absurd (true≢false (sym h))
+eq-below (fin s m e) nan h = absurd (true≢false (sym h))
+eq-below (fin s m e) (inf t) h = absurd (true≢false (sym h))
+eq-below (fin s m e) (fin t n d) h = level-below s t (m * up e * down d) (n * up d * down e) h
 
--- ---- `under` from a comparison and a sign
-lt-under : (x y : Float) → lt x y ≡ true → under x y ≡ true
-unfolding under
-lt-under x y h = rw h
+-- ---- of two numbers the second is taken where it is the higher
+plain : (x y : Float) → Number x → Number y → (isNan x || isNan y) ≡ false
+plain x y n k = go (isNan x) (isNan y) (n .1) (k .1)
+  where
+    go : (a b : Bool) → T (not a) → T (not b) → (a || b) ≡ false
+    go true b p q = absurd p
+    go false true p q = absurd q
+    go false false p q = refl
+
+max-is : (x y : Float) {t : Bool} → (isNan x || isNan y) ≡ false → under x y ≡ t → cond t y x ≡ jsMax x y
+unfolding jsMax
+max-is x y p h = rw (p, h)
 
 and-none : (b : Bool) → (b && false) ≡ false
 and-none true = refl
 and-none false = refl
 
-plus-under : (x y : Float) → lt x y ≡ false → negative x ≡ false → under x y ≡ false
-unfolding under
-plus-under x y h s = rw (h, s) (and-none (eq x y))
+-- ---- the code's cases: by comparison, and where the two compare equal by the highest bit of x
+module _ (x y : Float) (fx : T (fits binary64 x)) (fy : T (fits binary64 y)) (e : eq x y ≡ true) where
+  n : Number x
+  n = (fx, eq-numbers x y e .0)
 
-minus-over : (x y : Float) → lt x y ≡ false → negative y ≡ true → under x y ≡ false
-unfolding under
-minus-over x y h s = rw (h, s, and-none (negative x)) (and-none (eq x y))
+  k : Number y
+  k = (fy, eq-numbers x y e .1)
 
--- ---- of two numbers the second is taken where it is the higher, or the lower
-module _ (x y : Float) (n : Number x) (k : Number y) where
-  plain : (isNan x || isNan y) ≡ false
-  plain = go (isNan x) (isNan y) (n .1) (k .1)
+  pub max-plus : toBits binary64 x < 2 ^ 63 → x ≡ jsMax x y
+  max-plus b = max-is x y (plain x y n k) not-under
     where
-      go : (a b : Bool) → T (not a) → T (not b) → (a || b) ≡ false
-      go true b p q = absurd p
-      go false true p q = absurd q
-      go false false p q = refl
+      plus : negative x ≡ false
+      plus = sign-bit binary64 x fx (n .1) ∙ lt-leb (2 ^ 63) (toBits binary64 x) b
 
-  max-is : {t : Bool} → under x y ≡ t → cond t y x ≡ jsMax x y
-  unfolding jsMax
-  max-is h = rw (plain, h)
+      not-under : under x y ≡ false
+      not-under = unfold under in rw (eq-below x y e .0, plus) (and-none (eq x y))
 
-  min-is : {t : Bool} → under y x ≡ t → cond t y x ≡ jsMin x y
-  unfolding jsMin
-  min-is h = rw (plain, h)
-
-  -- where neither is below the other, the sign of x decides
-  module _ (p : lt x y ≡ false) (q : lt y x ≡ false) where
-    max-minus : negative x ≡ true → y ≡ jsMax x y
-    max-minus s = go (under x y) refl
-      where
-        go : (t : Bool) → under x y ≡ t → y ≡ jsMax x y
-        go true t = max-is t
-        go false t = sym (under-total x y n k t (minus-over y x q s)) ∙ max-is t
-
-    min-plus : negative x ≡ false → y ≡ jsMin x y
-    min-plus s = go (under y x) refl
-      where
-        go : (t : Bool) → under y x ≡ t → y ≡ jsMin x y
-        go true t = min-is t
-        go false t = sym (under-total x y n k (plus-under x y p s) t) ∙ min-is t
-
--- ---- the code's cases: by comparison, and by the highest bit of x
-module _ (x y : Float) (fx : T (fits binary64 x)) (fy : T (fits binary64 y)) where
-  module _ (h : lt x y ≡ true) where
-    n : Number x
-    n = (fx, lt-numbers x y h .0)
-
-    k : Number y
-    k = (fy, lt-numbers x y h .1)
-
-    pub max-lt : y ≡ jsMax x y
-    max-lt = max-is x y n k (lt-under x y h)
-
-    pub min-lt : x ≡ jsMin x y
-    min-lt = min-is x y n k (under-asym y x k n (lt-under x y h))
-
-  module _ (h : lt y x ≡ true) where
-    n′ : Number x
-    n′ = (fx, lt-numbers y x h .1)
-
-    k′ : Number y
-    k′ = (fy, lt-numbers y x h .0)
-
-    pub max-gt : x ≡ jsMax x y
-    max-gt = max-is x y n′ k′ (under-asym x y n′ k′ (lt-under y x h))
-
-    pub min-gt : y ≡ jsMin x y
-    min-gt = min-is x y n′ k′ (lt-under y x h)
-
-  module _ (p : lt x y ≡ false) (q : lt y x ≡ false) (e : eq x y ≡ true) where
-    both : Number x × Number y
-    both = ((fx, eq-numbers x y e .0), (fy, eq-numbers x y e .1))
-
-    plus : toBits binary64 x < 2 ^ 63 → negative x ≡ false
-    plus b = sign-bit binary64 x fx (both .0 .1) ∙ lt-leb (2 ^ 63) (toBits binary64 x) b
-
-    minus : 2 ^ 63 ≤ toBits binary64 x → negative x ≡ true
-    minus b = sign-bit binary64 x fx (both .0 .1) ∙ le-leb (2 ^ 63) (toBits binary64 x) b
-
-    pub max-eq-plus : toBits binary64 x < 2 ^ 63 → x ≡ jsMax x y
-    max-eq-plus b = max-is x y (both .0) (both .1) (plus-under x y p (plus b))
-
-    pub max-eq-minus : 2 ^ 63 ≤ toBits binary64 x → y ≡ jsMax x y
-    max-eq-minus b = max-minus x y (both .0) (both .1) p q (minus b)
-
-    pub min-eq-plus : toBits binary64 x < 2 ^ 63 → y ≡ jsMin x y
-    min-eq-plus b = min-plus x y (both .0) (both .1) p q (plus b)
-
-    pub min-eq-minus : 2 ^ 63 ≤ toBits binary64 x → x ≡ jsMin x y
-    min-eq-minus b = min-is x y (both .0) (both .1) (minus-over y x q (minus b))
-
--- ---- and NaN where they compare in no way
-module _ (x y : Float) (p : lt x y ≡ false) (q : lt y x ≡ false) (r : eq x y ≡ false) where
-  pub max-nan : add binary64 y x ≡ jsMax x y
-  unfolding jsMax
-  max-nan = rw (neither x y p q r) (add-nan y x (swap (isNan x) (isNan y) (neither x y p q r)))
+  pub max-minus : 2 ^ 63 ≤ toBits binary64 x → y ≡ jsMax x y
+  max-minus b = go (under x y) refl
     where
-      swap : (a b : Bool) → (a || b) ≡ true → (b || a) ≡ true
-      swap true true h = refl
-      swap true false h = refl
-      swap false true h = refl
-      swap false false h = h
+      minus : negative x ≡ true
+      minus = sign-bit binary64 x fx (n .1) ∙ le-leb (2 ^ 63) (toBits binary64 x) b
 
-  pub min-nan : add binary64 x y ≡ jsMin x y
-  unfolding jsMin
-  min-nan = rw (neither x y p q r) (add-nan x y (neither x y p q r))
+      not-over : under y x ≡ false
+      not-over = unfold under in rw (eq-below x y e .1, minus, and-none (negative y)) (and-none (eq y x))
+
+      go : (t : Bool) → under x y ≡ t → y ≡ jsMax x y
+      go true t = max-is x y (plain x y n k) t
+      go false t = sym (under-total x y n k t not-over) ∙ max-is x y (plain x y n k) t
+
+pub max-nan : (x y : Float) → ne y y ≡ true → y ≡ jsMax x y
+max-nan x y h = let e : y ≡ nan = differs-from-itself y (subst T (sym h) tt) in rw e (absorbs x)
+  where
+    absorbs : (x : Float) → nan ≡ jsMax x nan
+    absorbs nan = unfold jsMax isNan in refl
+    absorbs (inf s) = unfold jsMax isNan in refl
+    absorbs (fin s m e) = unfold jsMax isNan in refl
+
+pub max-lt : (x y : Float) → lt x y ≡ true → y ≡ jsMax x y
+max-lt x y h = max-is x y {t = true} (numbers x y h) (unfold under in rw h)
+  where
+    numbers : (x y : Float) → lt x y ≡ true → (isNan x || isNan y) ≡ false
+    numbers nan y h = unfold lt in absurd (true≢false (sym h))
+    numbers (inf s) nan h = unfold lt in absurd (true≢false (sym h))
+    numbers (inf s) (inf t) h = unfold isNan in refl
+    numbers (inf s) (fin t n d) h = unfold isNan in refl
+    numbers (fin s m e) nan h = unfold lt in absurd (true≢false (sym h))
+    numbers (fin s m e) (inf t) h = unfold isNan in refl
+    numbers (fin s m e) (fin t n d) h = unfold isNan in refl
+
+pub max-other : (x y : Float) → eq x y ≡ false → ne y y ≡ false → lt x y ≡ false → x ≡ jsMax x y
+max-other x y p q r = go (isNan x) refl
+  where
+    second : isNan y ≡ false
+    second = is-false (isNan y) (no-nan y q)
+
+    go : (t : Bool) → isNan x ≡ t → x ≡ jsMax x y
+    go true t = nan-first x t
+      where
+        nan-first : (x : Float) → isNan x ≡ true → x ≡ jsMax x y
+        nan-first nan h = unfold jsMax isNan in refl
+        nan-first (inf s) h = unfold isNan in absurd (true≢false (sym h))
+        nan-first (fin s m e) h = unfold isNan in absurd (true≢false (sym h))
+    go false t = max-is x y {t = false} (rw (t, second)) (unfold under in rw (r, p))

@@ -1,5 +1,6 @@
 -- Laws of Math.min, Math.max and toFixed.
 pub mod ToFixed
-pub mod Patterns
 pub mod Order
-pub mod Choice
+mod Patterns
+mod Choice
+mod Mirror

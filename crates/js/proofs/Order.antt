@@ -284,13 +284,6 @@ jsMax-associates x y z n k l =
     (subst (Rank binary64 (jsMax x (jsMax y z))) (omega arith) (max-rank binary64 x (jsMax y z) (a .0) (max (b .0) (c .0)) (a .1) (max-rank binary64 y z (b .0) (c .0) (b .1) (c .1))))
 
 -- ---- the order is total
-pub under-asym : (x y : Float) → Number x → Number y → under y x ≡ true → under x y ≡ false
-under-asym x y n k h =
-    let a = ranked x n in
-    let b = ranked y k in
-    under-rank binary64 x y (a .0) (b .0) (a .1) (b .1)
-    ∙ le-ltb (a .0) (b .0) (omega (arith, ltb-true (b .0) (a .0) (sym (under-rank binary64 y x (b .0) (a .0) (b .1) (a .1)) ∙ h)))
-
 pub under-total : (x y : Float) → Number x → Number y → under x y ≡ false → under y x ≡ false → x ≡ y
 under-total x y n k h l =
     let a = ranked x n in

@@ -5,42 +5,36 @@ ghost use Prim.Native.Nat.{_*_, _^_, _≤_, _<_};
 ghost use lib.Ieee.{binary64, ofBits, lt};
 ghost use Rattle.js.specs.Js.{jsMin, jsMax, nearestUp, jsToFixed};
 
-// Math.min.
-pub fn js_min(a: f64, b: f64) -> f64
-    ensures { λ r. ⌜ r ≡ jsMin a b ⌝ }
-{
-    if a < b {
-        return a;
-    }
-    if b < a {
-        return b;
-    }
-    if a == b {
-        if f64::to_bits(a) < 0x8000_0000_0000_0000 {
-            return b;
-        }
-        return a;
-    }
-    a + b
-}
+// The bit of the sign.
+const SIGN: u64 = 0x8000_0000_0000_0000;
 
-// Math.max.
+// The leading digit of a normal number, which its bits leave out.
+const HIDDEN: u64 = 0x10_0000_0000_0000;
+
+// Math.max. Where a is NaN no test holds, and a is returned.
 pub fn js_max(a: f64, b: f64) -> f64
     ensures { λ r. ⌜ r ≡ jsMax a b ⌝ }
 {
-    if a < b {
-        return b;
-    }
-    if b < a {
-        return a;
-    }
     if a == b {
-        if f64::to_bits(a) < 0x8000_0000_0000_0000 {
+        if f64::to_bits(a) < SIGN {
             return a;
         }
         return b;
     }
-    b + a
+    if b != b {
+        return b;
+    }
+    if a < b {
+        return b;
+    }
+    a
+}
+
+// Math.min: the mirror of the maximum.
+pub fn js_min(a: f64, b: f64) -> f64
+    ensures { λ r. ⌜ r ≡ jsMin a b ⌝ }
+{
+    -js_max(-a, -b)
 }
 
 // The whole number of thousandths nearest to m / 2^c, a tie upward (toFixed's n).
@@ -67,10 +61,7 @@ fn positive_fixed(x: f64) -> f64
         return 0.0;
     }
     if b < 0x42a0_0000_0000_0000 {
-        let n = thousandths(
-            b % 0x10_0000_0000_0000 + 0x10_0000_0000_0000,
-            1075 - b / 0x10_0000_0000_0000,
-        );
+        let n = thousandths(b % HIDDEN + HIDDEN, 1075 - b / HIDDEN);
         return n as f64 / 1000.0;
     }
     x

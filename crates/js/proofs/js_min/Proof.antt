@@ -1,39 +1,16 @@
--- `js::js_min` meets its contract: each return is a case of `proofs/Choice.antt`. Assumes nothing.
-use mathlib.Core.Path.{sym, subst}
-use lib.Dec.{T}
-use lib.Ieee.{binary64, fits}
-use Rattle.js.proofs.Choice.{eq-numbers, min-lt, min-gt, min-eq-plus, min-eq-minus, min-nan}
+-- `js::js_min` meets its contract: it is the mirror of the maximum (`proofs/Mirror.antt`). Assumes nothing.
+use mathlib.Core.Path.{ap, _∙_}
+use lib.Ieee.{neg}
+use borrow.Author.Needs.{needs}
+use Rattle.js.proofs.Mirror.{min-mirror}
 use Rattle.js.proofs.js_min.Statement.{statement}
 use Rattle.js.proofs.js_min.Tie as tie
 
-first : (c : tie.Start) → T (fits binary64 (c .args .a))
-first c = subst T (sym (c .good .0 .1)) tt
-
-second : (c : tie.Start) → T (fits binary64 (c .args .b))
-second c = subst T (sym (c .good .1 .0 .1)) tt
+js-max-requires : tie.Need-js-max-requires
+js-max-requires c κs = search needs
 
 returns : tie.Need-returns
-returns c = min-lt _ _ (first (c .before)) (second (c .before)) (c .if1 .taken)
-
-returns-2 : tie.Need-returns-2
-returns-2 c = min-gt _ _ (first (c .before .before)) (second (c .before .before)) (c .if2 .taken)
-
-float-to-bits-if4 : tie.Need-float-to-bits-if4
-float-to-bits-if4 c = eq-numbers _ _ (c .if3 .taken) .0
-
-returns-3 : tie.Need-returns-3
-returns-3 c =
-    let s = c .before .before .before .before in
-    min-eq-plus _ _ (first s) (second s) (c .before .before .before .if1 .left) (c .before .before .if2 .left) (c .before .if3 .taken) (c .if4 .taken)
-
-returns-4 : tie.Need-returns-4
-returns-4 c =
-    let s = c .before .before .before .before in
-    min-eq-minus _ _ (first s) (second s) (c .before .before .before .if1 .left) (c .before .before .if2 .left) (c .before .if3 .taken) (c .if4 .left)
-
-returns-5 : tie.Need-returns-5
-returns-5 c = min-nan _ _ (c .before .before .if1 .left) (c .before .if2 .left) (c .if3 .left)
+returns c = ap neg (c .js-max .ensures) ∙ min-mirror _ _
 
 pub js-min-spec : {M : Type 1} → statement M
-js-min-spec =
-    tie.close (tie.spec returns returns-2 float-to-bits-if4 returns-3 returns-4 returns-5)
+js-min-spec = tie.close (tie.spec js-max-requires returns)
