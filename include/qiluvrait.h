@@ -33,12 +33,16 @@ double qiluvrait_js_to_fixed(double x);
 double qiluvrait_sqrt(double x);
 
 /*
- * The frame that t falls in: t * 16000 and then / 160, each rounded to double, then the floor,
- * and the nearest end of int64_t where that is outside it. NaN gives 0.
+ * The frame of t: t * 16000 and then / 160, each rounded to double, then the floor, and the nearest
+ * end of int64_t where that is outside it. NaN gives 0. The roundings can move the start of a frame:
+ * qiluvrait_frame_at(2.01) is 200, and frame 201 starts at 2.01.
  */
 int64_t qiluvrait_frame_at(double t);
 
-/* The first frame that starts at t or after it: qiluvrait_frame_at with the ceiling for the floor. */
+/*
+ * qiluvrait_frame_at with the ceiling for the floor. qiluvrait_frame_ceil(4.03) is 404, and frame 403
+ * starts at 4.03.
+ */
 int64_t qiluvrait_frame_ceil(double t);
 
 /* qiluvrait_frame_at, or 0 where that is negative. */

@@ -138,6 +138,8 @@ def times(rng):
     yield from (0, SIGN, 1, SIGN + 1, 0x10000000000000, INFINITY, SIGN + INFINITY, NAN)
     yield from (INFINITY - 1, SIGN + INFINITY - 1)
     edges = [0.29, 0.57, 0.58, 1.13, 1.14, 1.15, 1.16, 0.01, 0.07, 0.1, 1.0, 4.35, 7200.0, 8192.0]
+    # the roundings move the start of a frame here
+    edges += [2.01, 4.03]
     edges += [rng.randint(0, 720000) / 100 for _ in range(12)]
     # where whole frames pass 2^53, where i64 ends, and where t * 16000 does
     edges += [2.0**53 / 100, 2.0**63 / 100, 2.0**63, 1.7976931348623157e308 / 16000, 1e300]
@@ -197,6 +199,8 @@ def main():
         seconds = frame_seconds(k)
         assert seconds == bits_of(float(k * 160) / 16000.0) | (SIGN if k < 0 else 0), k
         row("T", k % (1 << 64), seconds)
+    # The planted row: 0.29 falls in frame 29, and this says 28.
+    row("Y", bits_of(0.29), 28)
 
 
 main()

@@ -24,13 +24,17 @@ pub record First (r : Refusal) (ts : List Test) : Type 0 where
   pub applies : test .applies ≡ true
   pub is : test .refusal ≡ r
 
-first-skip : (t : Test) (ts : List Test) → t .applies ≡ false → first (t ∷ ts) ≡ first ts
+pub first-skip : (t : Test) (ts : List Test) → t .applies ≡ false → first (t ∷ ts) ≡ first ts
 unfolding first
 first-skip t ts h = rw h
 
-first-here : (t : Test) (ts : List Test) → t .applies ≡ true → first (t ∷ ts) ≡ Breaks (t .refusal)
+pub first-here : (t : Test) (ts : List Test) → t .applies ≡ true → first (t ∷ ts) ≡ Breaks (t .refusal)
 unfolding first
 first-here t ts h = rw h
+
+pub first-end : first [] ≡ Fine
+unfolding first
+first-end = refl
 
 never : {A : Type 0} {r : Refusal} → Fine ≡ Breaks r → A
 never h = absurd (let z : _≡_ {A = ℕ} 0 1 = cc in omega arith)

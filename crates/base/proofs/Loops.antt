@@ -3,6 +3,9 @@
 use Prim.Native.Nat.{ℕ, zero, suc, _+_, _-_, _<_, _≤_, min, max}
 use mathlib.Core.Path.{_≡_, refl, sym, ap, _∙_}
 use mathlib.Core.Bool.{Bool, true, false}
+use mathlib.Core.List.{List, [], _∷_, _++_}
+use lib.ListN.{length, drop, getD, set, length-append, drop-of-length-le}
+use lib.Seq.{drop-cons, set-at, append-snoc}
 use native.Mathlib.Omega.{arith}
 use native.Mathlib.Nat.{sub-zero}
 use native.Mathlib.Numerals.{add-one}
@@ -11,7 +14,7 @@ use lib.Dec.{ltb}
 use lib.Signed.{ltZ}
 use borrow.Author.Tests.{le-ltb, ltb-true, ltb-false}
 use Rattle.base.specs.Whole.{toNat, minZ, maxZ}
-use Rattle.base.specs.Loop.{Turn, on, out, each, run, range, runBack, rangeBack}
+use Rattle.base.specs.Loop.{Turn, on, out, each, fold, table, run, range, runBack, rangeBack}
 
 pub subℕ-nat : (a b : ℕ) → toNat (subℕ a b) ≡ a - b
 subℕ-nat a b = go (ltb a b) refl where
@@ -62,6 +65,35 @@ module _ {S : Type 0} where
   pub each-done : (f : ℕ → S → S) (e i : ℕ) (s : S) → e ≤ i → each f (e - i) i s ≡ s
   unfolding each
   each-done f e i s h = let h′ : e - i ≡ 0 = omega arith in rw h′
+
+  -- a loop over a list stands at i
+  module _ {A : Type 0} (f : S → A → S) (xs : List A) where
+    pub fold-next : (i : ℕ) (d : A) {s s′ : S} → i < length xs → s′ ≡ f s (getD xs i d) → fold f s (drop i xs) ≡ fold f s′ (drop (i + 1) xs)
+    unfolding fold
+    fold-next i d {s} h t = rw (add-one, drop-cons xs i d h, t)
+
+    pub fold-done : (i : ℕ) (s : S) → length xs ≤ i → fold f s (drop i xs) ≡ s
+    unfolding fold
+    fold-done i s h = rw (drop-of-length-le xs h)
+
+  -- n stores from the front leave a table, and what stood behind it
+  each-table-from : (g : ℕ → S) (n i : ℕ) (done rest : List S) → length done ≡ i → n ≤ length rest
+      → each (λ (k : ℕ) (l : List S). set l k (g k)) n i (done ++ rest) ≡ done ++ (table g n i ++ drop n rest)
+  unfolding each table
+  each-table-from g zero i done rest e h = refl
+  each-table-from g (suc n) i done [] e h = absurd (omega arith)
+  each-table-from g (suc n) i done (r ∷ rest) e h =
+      ap (λ (l : List S). each (λ (k : ℕ) (l : List S). set l k (g k)) n (suc i) l) (set-at done r rest (g i) i e ∙ sym (append-snoc done (g i) rest))
+      ∙ each-table-from g n (suc i) (done ++ (g i ∷ [])) rest (rw length-append (omega arith)) (omega arith)
+      ∙ append-snoc done (g i) (table g n (suc i) ++ drop n rest)
+
+  pub each-table : (g : ℕ → S) (n : ℕ) (places : List S) → n ≤ length places → each (λ (k : ℕ) (l : List S). set l k (g k)) n 0 places ≡ table g n 0 ++ drop n places
+  each-table g n places h = each-table-from g n 0 [] places refl h
+
+  pub length-table : (g : ℕ → S) (n i : ℕ) → length (table g n i) ≡ n
+  unfolding table
+  length-table g zero i = refl
+  length-table g (suc n) i = ap suc (length-table g n (suc i))
 
   -- what each turn keeps, the loop keeps
   pub each-keeps : {A : Type 0} (o : S → A) (f : ℕ → S → S) → ((i : ℕ) (s : S) → o (f i s) ≡ o s) → (n i : ℕ) (s : S) → o (each f n i s) ≡ o s

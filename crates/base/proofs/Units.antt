@@ -36,20 +36,27 @@ place l m Y (negsuc a) d h =
           (sym h ∙ ap (λ (x : ℕ). x * 2 ^ l) (mul-one m) ∙ ap (λ (x : ℕ). m * x) (pow-split l (suc a) le) ∙ sym (mul-assoc m (2 ^ (l - suc a)) (2 ^ suc a))),
     )
 
+-- ---- what `fits` says of a finite value that is not zero
+pub fits-parts : (f : Format) (s : Bool) (m : ℕ) (e : ℤ) → T (fits f (fin s (suc m) e))
+    → (suc m < 2 ^ prec f) × ((down e ≤ 2 ^ low f) × (suc m * up e < 2 ^ suc (emax f) * down e))
+unfolding fits
+fits-parts f s m e t =
+    let a = eqb (suc m % 2) 1 in
+    let b = ltb (suc m) (2 ^ prec f) in
+    let c = leb (down e) (2 ^ low f) in
+    let d = ltb (suc m * up e) (2 ^ suc (emax f) * down e) in
+    let abc = and-l (a && b && c) d t in
+    (ltb→lt (suc m) (2 ^ prec f) (and-r a b (and-l (a && b) c abc)), (leb→le (down e) (2 ^ low f) (and-r (a && b) c abc), ltb→lt (suc m * up e) (2 ^ suc (emax f) * down e) (and-r (a && b && c) d t)))
+
 -- a value of the format is m * 2 ^ j units, m below 2 ^ prec
 pub digits : (f : Format) (y : Float) (Y : ℕ) → T (fits f y) → HasValue y false Y (2 ^ low f) → (m : ℕ) × (j : ℕ) × (m < 2 ^ prec f) × (Y ≡ m * 2 ^ j)
-unfolding fits
 digits f nan Y t h = absurd h
 digits f (inf s) Y t h = absurd h
 digits f (fin s zero e) Y t h =
     (0, 0, pow-pos (prec f), eq-of-mul-eq-mul-right (down e) (down-pos e) Y 0 (sym (h .1) ∙ ap (λ (x : ℕ). x * 2 ^ low f) (zero-mul (up e)) ∙ zero-mul (2 ^ low f) ∙ sym (zero-mul (down e))))
 digits f (fin s (suc m) e) Y t h =
-    let a = eqb (suc m % 2) 1 in
-    let b = ltb (suc m) (2 ^ prec f) in
-    let c = leb (down e) (2 ^ low f) in
-    let d = ltb (suc m * up e) (2 ^ suc (emax f) * down e) in
-    let p = place (low f) (suc m) Y e (leb→le (down e) (2 ^ low f) (and-r (a && b) c (and-l (a && b && c) d t))) (h .1) in
-    (suc m, p .0, ltb→lt (suc m) (2 ^ prec f) (and-r a b (and-l (a && b) c (and-l (a && b && c) d t))), p .1)
+    let q = fits-parts f s m e t in
+    let p = place (low f) (suc m) Y e (q .1 .0) (h .1) in (suc m, p .0, q .0, p .1)
 
 reach-k : (p j k : ℕ) → 0 < p → p - 1 + k < p + j → k ≤ j
 reach-k p j k P h = omega arith
@@ -67,17 +74,12 @@ gap f y Y k t h l = let g = digits f y Y t h in multiple f (g .0) (g .1) k Y (g 
 
 -- ---- a finite value is below 2 ^ (emax + 1)
 pub in-range : (f : Format) (x : Float) (n : ℕ) → T (fits f x) → HasValue x false n (2 ^ low f) → n < 2 ^ (low f + suc (emax f))
-unfolding fits
 in-range f nan n t h = absurd h
 in-range f (inf s) n t h = absurd h
 in-range f (fin s zero e) n t h =
     lt-of-le-of-lt (le-of-eq (eq-of-mul-eq-mul-right (down e) (down-pos e) n 0 (sym (h .1) ∙ ap (λ (x : ℕ). x * 2 ^ low f) (zero-mul (up e)) ∙ zero-mul (2 ^ low f) ∙ sym (zero-mul (down e))))) (pow-pos (low f + suc (emax f)))
 in-range f (fin s (suc m) e) n t h =
-    let a = eqb (suc m % 2) 1 in
-    let b = ltb (suc m) (2 ^ prec f) in
-    let c = leb (down e) (2 ^ low f) in
-    let d = ltb (suc m * up e) (2 ^ suc (emax f) * down e) in
-    let u : suc m * up e * 2 ^ low f < 2 ^ suc (emax f) * down e * 2 ^ low f = mul-lt-mul-of-pos-right (ltb→lt (suc m * up e) (2 ^ suc (emax f) * down e) (and-r (a && b && c) d t)) (pow-pos (low f)) in
+    let u : suc m * up e * 2 ^ low f < 2 ^ suc (emax f) * down e * 2 ^ low f = mul-lt-mul-of-pos-right (fits-parts f s m e t .1 .1) (pow-pos (low f)) in
     lt-of-mul-lt-mul-right (down e)
     (subst (λ (y : ℕ). y < 2 ^ (low f + suc (emax f)) * down e) (h .1)
     (lt-of-lt-of-le u (le-of-eq (mul-right-comm (2 ^ suc (emax f)) (down e) (2 ^ low f) ∙ ap (λ (y : ℕ). y * down e) (mul-comm (2 ^ suc (emax f)) (2 ^ low f) ∙ sym (pow-add 2 (low f) (suc (emax f))))))))
@@ -87,12 +89,8 @@ same-value f u v n fu fv hu hv = sym (ofBits-toBits f u fu) ∙ ap (ofBits f) (t
 
 -- ---- a finite value is a whole number of units
 pub in-units : (f : Format) (s : Bool) (m : ℕ) (e : ℤ) → T (fits f (fin s m e)) → (n : ℕ) × HasValue (fin s m e) s n (2 ^ low f)
-unfolding fits
 in-units f s zero e t = (0, (refl, ap (λ (x : ℕ). x * 2 ^ low f) (zero-mul (up e)) ∙ zero-mul (2 ^ low f) ∙ sym (zero-mul (down e))))
 in-units f s (suc m) (pos k) t = (suc m * 2 ^ k * 2 ^ low f, (refl, sym (mul-one (suc m * 2 ^ k * 2 ^ low f))))
 in-units f s (suc m) (negsuc k) t =
-    let a = eqb (suc m % 2) 1 && ltb (suc m) (2 ^ prec f) in
-    let c = leb (2 ^ suc k) (2 ^ low f) in
-    let d = ltb (suc m * 1) (2 ^ suc (emax f) * 2 ^ suc k) in
-    let h : suc k ≤ low f = pow-le-back (suc k) (low f) (leb→le (2 ^ suc k) (2 ^ low f) (and-r a c (and-l (a && c) d t))) in
+    let h : suc k ≤ low f = pow-le-back (suc k) (low f) (fits-parts f s m (negsuc k) t .1 .0) in
     (suc m * 1 * 2 ^ (low f - suc k), (refl, ap (λ (x : ℕ). suc m * 1 * x) (pow-split (low f) (suc k) h) ∙ sym (mul-assoc (suc m * 1) (2 ^ (low f - suc k)) (2 ^ suc k))))

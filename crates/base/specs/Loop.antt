@@ -1,5 +1,6 @@
 -- Rust's counting loops and searches as definitions. Each clause has one recursive call, so that they compute. Assumes nothing.
 use Prim.Native.Nat.{ℕ, zero, suc}
+use mathlib.Core.List.{List, [], _∷_}
 use lib.IntN.{ℤ, pos, sucℤ, predℤ, _+ℤ_, _-ℤ_}
 use Rattle.base.specs.Whole.{toNat}
 
@@ -13,6 +14,16 @@ module _ {S : Type 0} where
   unfoldable pub each : (ℕ → S → S) → ℕ → ℕ → S → S
   each f zero i s = s
   each f (suc n) i s = each f n (suc i) (f i s)
+
+  -- ---- for a in list { s = f(s, a) }
+  unfoldable pub fold : {A : Type 0} → (S → A → S) → S → List A → S
+  fold f s [] = s
+  fold f s (a ∷ l) = fold f (f s a) l
+
+  -- ---- f(i), f(i + 1), .., of n numbers
+  unfoldable pub table : (ℕ → S) → ℕ → ℕ → List S
+  table f zero i = []
+  table f (suc n) i = f i ∷ table f n (suc i)
 
   -- ---- At most n turns, at k, k + 1, ..
   unfoldable pub run : (ℤ → S → Turn S) → ℕ → ℤ → Turn S → S

@@ -6,7 +6,6 @@ ghost use Rattle.js.specs.Js.{jsMin, jsMax, jsToFixed};
 ghost use Rattle.roots.specs.Sqrt.{sqrt as sqrtOf};
 ghost use Rattle.frames.specs.Frames.{frameAt, frameCeil, frameFromZero, frameSeconds};
 
-// js::js_min.
 #[no_mangle]
 pub extern "C" fn qiluvrait_js_min(a: f64, b: f64) -> f64
     ensures { λ r. ⌜ r ≡ jsMin a b ⌝ }
@@ -14,7 +13,6 @@ pub extern "C" fn qiluvrait_js_min(a: f64, b: f64) -> f64
     js::js_min(a, b)
 }
 
-// js::js_max.
 #[no_mangle]
 pub extern "C" fn qiluvrait_js_max(a: f64, b: f64) -> f64
     ensures { λ r. ⌜ r ≡ jsMax a b ⌝ }
@@ -22,7 +20,6 @@ pub extern "C" fn qiluvrait_js_max(a: f64, b: f64) -> f64
     js::js_max(a, b)
 }
 
-// js::js_to_fixed: three decimals.
 #[no_mangle]
 pub extern "C" fn qiluvrait_js_to_fixed(x: f64) -> f64
     ensures { λ r. ⌜ r ≡ jsToFixed x ⌝ }
@@ -30,7 +27,6 @@ pub extern "C" fn qiluvrait_js_to_fixed(x: f64) -> f64
     js::js_to_fixed(x)
 }
 
-// roots::sqrt.
 #[no_mangle]
 pub extern "C" fn qiluvrait_sqrt(x: f64) -> f64
     ensures { λ r. ⌜ r ≡ sqrtOf binary64 x ⌝ }
@@ -38,7 +34,6 @@ pub extern "C" fn qiluvrait_sqrt(x: f64) -> f64
     roots::sqrt(x)
 }
 
-// frames::frame_at.
 #[no_mangle]
 pub extern "C" fn qiluvrait_frame_at(t: f64) -> i64
     ensures { λ r. ⌜ r ≡ frameAt t ⌝ }
@@ -46,7 +41,6 @@ pub extern "C" fn qiluvrait_frame_at(t: f64) -> i64
     frames::frame_at(t)
 }
 
-// frames::frame_ceil.
 #[no_mangle]
 pub extern "C" fn qiluvrait_frame_ceil(t: f64) -> i64
     ensures { λ r. ⌜ r ≡ frameCeil t ⌝ }
@@ -54,7 +48,6 @@ pub extern "C" fn qiluvrait_frame_ceil(t: f64) -> i64
     frames::frame_ceil(t)
 }
 
-// frames::frame_from_zero.
 #[no_mangle]
 pub extern "C" fn qiluvrait_frame_from_zero(t: f64) -> i64
     ensures { λ r. ⌜ r ≡ frameFromZero t ⌝ }
@@ -62,7 +55,6 @@ pub extern "C" fn qiluvrait_frame_from_zero(t: f64) -> i64
     frames::frame_from_zero(t)
 }
 
-// frames::frame_seconds.
 #[no_mangle]
 pub extern "C" fn qiluvrait_frame_seconds(k: i64) -> f64
     ensures { λ r. ⌜ r ≡ frameSeconds k ⌝ }

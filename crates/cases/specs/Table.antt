@@ -1,16 +1,27 @@
 -- The table of document 01's cases marked ●, each as it stands there. Assumes nothing.
-use mathlib.Core.Path.{_≡_}
 use Prim.Native.Nat.{ℕ}
-use lib.Ieee.{Float, binary64, ofBits}
+use mathlib.Core.Bool.{Bool, true, false}
+use mathlib.Core.Path.{_≡_}
+use lib.IntN.{pos}
+use lib.Ieee.{Float, fin, binary64, round}
+use mathlib.Core.List.{[], _∷_}
+use lib.ListN.{replicate}
 use Rattle.js.specs.Js.{jsToFixed}
+use Rattle.envelope.specs.Levels.{level, quietRow}
 
--- a double by its bits
-abbrev f64 : ℕ → Float
-f64 b = ofBits binary64 b
+-- ---- The double that a decimal number stands for: the nearest to n / d, with a sign.
+abbrev pub double : Bool → ℕ → ℕ → Float
+double negative n d = round binary64 negative n d
+
+abbrev pub zero : Bool → Float
+zero negative = fin negative 0 (pos 0)
 
 pub record Table : Type 0 where
   -- Numbers: "● 0.0625 gives 0.063; ● -0.0625 gives -0.063; ● -0.0001 gives -0; ● -0 gives +0."
-  pub tie : jsToFixed (f64 0x3fb0_0000_0000_0000) ≡ f64 0x3fb0_20c4_9ba5_e354
-  pub tie-below-zero : jsToFixed (f64 0xbfb0_0000_0000_0000) ≡ f64 0xbfb0_20c4_9ba5_e354
-  pub to-nothing : jsToFixed (f64 0xbf1a_36e2_eb1c_432d) ≡ f64 0x8000_0000_0000_0000
-  pub minus-zero : jsToFixed (f64 0x8000_0000_0000_0000) ≡ f64 0
+  pub tie : jsToFixed (double false 625 10000) ≡ double false 63 1000
+  pub tie-below-zero : jsToFixed (double true 625 10000) ≡ double true 63 1000
+  pub to-nothing : jsToFixed (double true 1 10000) ≡ zero true
+  pub minus-zero : jsToFixed (zero true) ≡ zero false
+  -- Levels: "● 160 samples of 0.5: level 0.5. ● A level equal to the floor: quiet."
+  pub level-of-half : level (replicate 160 (double false 1 2)) ≡ double false 1 2
+  pub quiet-at-floor : quietRow (double false 5 1000) (double false 5 1000 ∷ []) ≡ true ∷ []

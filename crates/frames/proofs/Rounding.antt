@@ -1,17 +1,18 @@
 -- Rounding down and up to an i64, by the sign of x: below zero, the floor of x is the ceiling of -x negated, and the ceiling of x the floor of -x negated.
 -- A whole number below 2 ^ 53 is an f64, so comparing it with x tells whether x has a fraction; from 2 ^ 53 on no f64 has one. Assumes nothing.
 use Prim.Native.Nat.{ℕ, zero, suc, _+_, _-_, _*_, _/_, _%_, _<_, _≤_, _^_, min}
-use mathlib.Core.Bool.{Bool, true, false, _&&_, cond}
+use mathlib.Core.Bool.{Bool, true, false, cond}
 use mathlib.Core.Path.{_≡_, refl, ap, _∙_}
 use lib.IntN.{ℤ, pos, negsuc, negℤ}
-use lib.Dec.{T, leb, ltb, eqb, ltb→lt, lit<}
+use lib.Dec.{T, ltb, lit<}
 use lib.Pow.{shr-le}
 use native.Mathlib.Nat.{div-add-mod', mod-lt, div-eq-of-lt, div-eq-of-lt-le, add-mul, one-mul, le-div-iff-mul-le}
 use native.Mathlib.Omega.{arith}
 use borrow.Author.Tests.{ltb-true, ltb-false, lt-ltb, le-ltb}
-use lib.Ieee.{Float, nan, inf, fin, binary64, emax, low, fits, lt, neg, ofInt, round, size, span, climb, units, odd, toUnsigned, up, down}
-use lib.Ieee.Fits.{down-pos, and-l, and-r}
+use lib.Ieee.{Float, nan, inf, fin, binary64, fits, lt, neg, ofInt, round, size, span, climb, units, odd, toUnsigned, up, down}
+use lib.Ieee.Fits.{down-pos}
 use Rattle.base.specs.Whole.{toNat}
+use Rattle.base.proofs.Units.{fits-parts}
 use Rattle.base.proofs.Values.{whole-int, lt-whole}
 use Rattle.frames.specs.Frames.{saturate, floorI64, ceilI64}
 use Rattle.frames.specs.Parts.{ceilUnsigned}
@@ -81,14 +82,8 @@ no-fraction m (pos k) l h = omega arith
 no-fraction m (negsuc k) l h = absurd (omega (arith, shr-le (m * 1) (suc k)))
 
 digits-lt : (m : ℕ) (e : ℤ) → T (fits binary64 (fin false m e)) → m < 2 ^ 53
-unfolding fits
 digits-lt zero e t = lit< tt
-digits-lt (suc m) e t =
-    let a = eqb (suc m % 2) 1 in
-    let b = ltb (suc m) (2 ^ 53) in
-    let c = leb (down e) (2 ^ low binary64) in
-    let d = ltb (suc m * up e) (2 ^ suc (emax binary64) * down e) in
-    ltb→lt (suc m) (2 ^ 53) (and-r a b (and-l (a && b) c (and-l (a && b && c) d t)))
+digits-lt (suc m) e t = fits-parts binary64 false m e t .0
 
 pub ceil-large : (x : Float) {k : ℕ} → T (fits binary64 x) → k ≡ toUnsigned 64 x → 2 ^ 53 ≤ k → k ≡ ceilUnsigned x
 unfolding toUnsigned ceilUnsigned

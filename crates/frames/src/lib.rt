@@ -24,7 +24,7 @@ fn in_frames(t: f64) -> f64
 }
 
 // x rounded down, from 0 to 2^64 - 1 (Rust's `as u64`).
-fn whole(x: f64) -> u64
+fn truncated(x: f64) -> u64
     ensures { λ r. ⌜ r ≡ toUnsigned 64 x ⌝ }
 {
     if x > -1.0 {
@@ -40,7 +40,7 @@ fn whole(x: f64) -> u64
 fn ceil_whole(x: f64) -> u64
     ensures { λ r. ⌜ r ≡ ceilUnsigned x ⌝ }
 {
-    let k = whole(x);
+    let k = truncated(x);
     if k < 0x20_0000_0000_0000 {
         if (k as f64) < x {
             return k + 1;
@@ -50,8 +50,8 @@ fn ceil_whole(x: f64) -> u64
     k
 }
 
-// n, or the largest i64 where n is above it (Rust's `as i64`).
-fn positive(n: u64) -> i64
+// n, or the largest i64 where n is above it, as a float cast to i64 saturates.
+fn to_i64(n: u64) -> i64
     ensures { λ r. ⌜ r ≡ pos (min n (2 ^ 63 - 1)) ⌝ }
 {
     if n < 0x8000_0000_0000_0000 {
@@ -60,8 +60,8 @@ fn positive(n: u64) -> i64
     0x7fff_ffff_ffff_ffff
 }
 
-// -n, or the least i64 where -n is below it (Rust's `as i64`).
-fn negative(n: u64) -> i64
+// -n, or the least i64 where -n is below it, as a float cast to i64 saturates.
+fn minus_to_i64(n: u64) -> i64
     ensures { λ r. ⌜ r ≡ negℤ (pos (min n (2 ^ 63))) ⌝ }
 {
     if n < 0x8000_0000_0000_0000 {
@@ -75,9 +75,9 @@ fn floor_i64(x: f64) -> i64
     ensures { λ r. ⌜ r ≡ floorI64 x ⌝ }
 {
     if x < 0.0 {
-        return negative(ceil_whole(-x));
+        return minus_to_i64(ceil_whole(-x));
     }
-    positive(whole(x))
+    to_i64(truncated(x))
 }
 
 // Rust's x.ceil() as i64.
@@ -85,9 +85,9 @@ fn ceil_i64(x: f64) -> i64
     ensures { λ r. ⌜ r ≡ ceilI64 x ⌝ }
 {
     if x < 0.0 {
-        return negative(whole(-x));
+        return minus_to_i64(truncated(-x));
     }
-    positive(ceil_whole(x))
+    to_i64(ceil_whole(x))
 }
 
 // Rust's k.max(0).
@@ -100,21 +100,21 @@ fn from_zero(k: i64) -> i64
     k
 }
 
-// The frame that a time falls in (envelope.rs, frame_at).
+// floor(t * 16000 / 160) (envelope.rs, frame_at).
 pub fn frame_at(t: f64) -> i64
     ensures { λ r. ⌜ r ≡ frameAt t ⌝ }
 {
     floor_i64(in_frames(t))
 }
 
-// The first frame that starts at or after a time (envelope.rs, frame_ceil).
+// ceil(t * 16000 / 160) (envelope.rs, frame_ceil).
 pub fn frame_ceil(t: f64) -> i64
     ensures { λ r. ⌜ r ≡ frameCeil t ⌝ }
 {
     ceil_i64(in_frames(t))
 }
 
-// The frame that a time falls in, never before frame 0 (envelope.rs, frame_from_zero).
+// The frame of a time, never before frame 0 (envelope.rs, frame_from_zero).
 pub fn frame_from_zero(t: f64) -> i64
     ensures { λ r. ⌜ r ≡ frameFromZero t ⌝ }
 {
@@ -131,14 +131,14 @@ fn index(n: u64) -> usize
     CUT as usize
 }
 
-// The frame that a time falls in, from 0 to 2^40.
+// The frame of a time, from 0 to 2^40.
 pub fn frame_index(t: f64) -> usize
     ensures { λ r. ⌜ r ≡ min (toNat (frameAt t)) (2 ^ 40) ⌝ }
 {
-    index(whole(in_frames(t)))
+    index(truncated(in_frames(t)))
 }
 
-// The first frame that starts at or after a time, from 0 to 2^40.
+// The frame of a time, rounded up, from 0 to 2^40.
 pub fn ceil_index(t: f64) -> usize
     ensures { λ r. ⌜ r ≡ min (toNat (frameCeil t)) (2 ^ 40) ⌝ }
 {

@@ -147,10 +147,10 @@ module _ (f : Format) where
   rank false m = suc L + m
   rank true m = L - m
 
-  and-none : (a b : Bool) → (a || (b && false)) ≡ a
-  and-none true b = refl
-  and-none false true = refl
-  and-none false false = refl
+  or-none : (a b : Bool) → (a || (b && false)) ≡ a
+  or-none true b = refl
+  or-none false true = refl
+  or-none false false = refl
 
   ltb-iff : (a b c d : ℕ) → (a < b → c < d) → (b ≤ a → d ≤ c) → ltb a b ≡ ltb c d
   ltb-iff a b c d up down = go (ltb a b) refl
@@ -166,10 +166,10 @@ module _ (f : Format) where
       let k : n ≡ 0 = omega (arith, ltb-false 0 (m + n) e) in rw (z, k)
 
   ranks : (s t : Bool) (m n : ℕ) → m ≤ L → n ≤ L → (below s m t n || (level s m t n && (s && not t))) ≡ ltb (rank s m) (rank t n)
-  ranks false false m n h k = and-none (ltb m n) (level false m false n) ∙ ltb-iff m n (suc L + m) (suc L + n) (λ p. omega arith) (λ p. omega arith)
-  ranks false true m n h k = and-none false (level false m true n) ∙ sym (le-ltb (suc L + m) (L - n) (omega arith))
+  ranks false false m n h k = or-none (ltb m n) (level false m false n) ∙ ltb-iff m n (suc L + m) (suc L + n) (λ p. omega arith) (λ p. omega arith)
+  ranks false true m n h k = or-none false (level false m true n) ∙ sym (le-ltb (suc L + m) (L - n) (omega arith))
   ranks true false m n h k = across m n (ltb 0 (m + n)) refl ∙ sym (lt-ltb (L - m) (suc L + n) (omega arith))
-  ranks true true m n h k = and-none (ltb n m) (level true m true n) ∙ ltb-iff n m (L - m) (L - n) (λ p. omega arith) (λ p. omega arith)
+  ranks true true m n h k = or-none (ltb n m) (level true m true n) ∙ ltb-iff n m (L - m) (L - n) (λ p. omega arith) (λ p. omega arith)
 
   -- x stands at the rank r
   pub record Rank (x : Float) (r : ℕ) : Type 0 where

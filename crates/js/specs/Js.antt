@@ -14,11 +14,11 @@ negative (fin s m e) = s
 unfoldable pub under : Float → Float → Bool
 under a b = lt a b || (eq a b && (negative a && not (negative b)))
 
--- ---- Math.min (ECMAScript, 21.3.2.25): NaN if either is; else the lower one.
+-- ---- Math.min (ECMAScript 2024, 21.3.2.25): NaN if either is; else the lower one.
 unfoldable pub jsMin : Float → Float → Float
 jsMin a b = cond (isNan a || isNan b) nan (cond (under b a) b a)
 
--- ---- Math.max (ECMAScript, 21.3.2.24): NaN if either is; else the higher one.
+-- ---- Math.max (ECMAScript 2024, 21.3.2.24): NaN if either is; else the higher one.
 unfoldable pub jsMax : Float → Float → Float
 jsMax a b = cond (isNan a || isNan b) nan (cond (under a b) b a)
 
@@ -26,9 +26,9 @@ jsMax a b = cond (isNan a || isNan b) nan (cond (under a b) b a)
 unfoldable pub nearestUp : ℕ → ℕ → ℕ
 nearestUp a b = cond (ltb (a % b * 2) b) (a / b) (a / b + 1)
 
--- ---- Number.prototype.toFixed (ECMAScript, 21.1.3.3) with three decimals, read back. x is ±a / b.
+-- ---- Number.prototype.toFixed (ECMAScript 2024, 21.1.3.3) with three decimals, read back. x is ±a / b.
 -- "If x is not finite", x. "If x < 0": "-", and x is -x. "If x ≥ 10^21", x. Else "let n be an integer for which n / 10^f - x is as
--- close to zero as possible. If there are two such n, pick the larger n"; what is read back is the double nearest to n / 1000.
+-- close to zero as possible. If there are two such n, pick the larger n"; read back as document 01 has it, "the answer is the double nearest n / 1000, with the sign of x".
 unfoldable pub jsToFixed : Float → Float
 jsToFixed nan = nan
 jsToFixed (inf s) = inf s

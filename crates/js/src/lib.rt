@@ -11,7 +11,7 @@ const SIGN: u64 = 0x8000_0000_0000_0000;
 // The leading digit of a normal number, which its bits leave out.
 const HIDDEN: u64 = 0x10_0000_0000_0000;
 
-// Math.max. Where a is NaN no test holds, and a is returned.
+// Math.max. Where only a is NaN no test holds, and a is returned.
 pub fn js_max(a: f64, b: f64) -> f64
     ensures { λ r. ⌜ r ≡ jsMax a b ⌝ }
 {

@@ -16,7 +16,7 @@ use Rattle.base.proofs.Bits.{decode, fields-low, fields-mid, fields-top, value-
 use Rattle.roots.specs.Sqrt.{roundRoot, sqrt}
 use Rattle.roots.specs.Parts.{Rooted}
 use Rattle.roots.proofs.Fours.{fours}
-use Rattle.roots.proofs.Value.{Is, sqrt-pos, sqrt-neg}
+use Rattle.roots.proofs.Value.{InUnits, sqrt-pos, sqrt-neg}
 
 -- ---- NaN
 pub at-nan : (f : Format) (x : Float) → ne x x ≡ true → x ≡ sqrt f x
@@ -76,7 +76,7 @@ infinite b u n l =
     field = omega arith
 
 -- ---- positive and finite: the root of M * 2 ^ x units is √(m * 4 ^ h * 2 ^ 52) units
-rooted : (v : Float) (M x m h y : ℕ) → 0 < M → Is binary64 v (M * 2 ^ x) → M * 2 ^ (x + 1022) ≡ m * 4 ^ h
+rooted : (v : Float) (M x m h y : ℕ) → 0 < M → InUnits binary64 v (M * 2 ^ x) → M * 2 ^ (x + 1022) ≡ m * 4 ^ h
     → Rooted (roundRoot binary64 (m * 4 ^ h * 2 ^ 52)) y → Rooted (sqrt binary64 v) y
 rooted v M x m h y P u e r = record {
   value = r .value ∙ ap (roundRoot binary64) (sym number) ∙ sym (sqrt-pos binary64 v (M * 2 ^ x) (mul-pos P (pow-pos x)) u);

@@ -4,9 +4,12 @@
 //     K AAAAAAAAAAAAAAAA BBBBBBBBBBBBBBBB RRRRRRRRRRRRRRRR
 //
 // K is the kind, A and B are the inputs and R is the answer, in upper-case hexadecimal digits: the
-// bits of a double, or a whole number in two's complement. Any NaN stands for every NaN. The kind X
-// has one row, with an answer of toFixed that is one step off on purpose, so that the output shows
-// that a wrong answer is seen.
+// bits of a double, or a whole number in two's complement. Any NaN stands for every NaN. The kinds:
+//
+//     F toFixed   L min (lower)   H max (higher)   S square root
+//     A frame_at  C frame_ceil    Z frame_from_zero  T frame_seconds (time)
+//     X toFixed and Y frame_at, one row each, with an answer that is one step off on purpose, so
+//       that the output shows that a wrong answer is seen
 ghost use mathlib.Core.Path.{_≡_};
 ghost use Prim.Native.Nat.{_+_, _≤_};
 ghost use lib.Ieee.{binary64, nanBits};
@@ -14,9 +17,9 @@ use libc::STDIN_FILENO;
 use libc::STDOUT_FILENO;
 
 // The places of a tally: one for each kind of row, and the last for what is no row.
-const PLACES: usize = 10;
+const PLACES: usize = 11;
 
-const UNREADABLE: usize = 9;
+const UNREADABLE: usize = 10;
 
 // The place of a kind in a tally.
 fn place(kind: u8) -> usize {
@@ -30,6 +33,7 @@ fn place(kind: u8) -> usize {
         b'Z' => 6,
         b'T' => 7,
         b'X' => 8,
+        b'Y' => 9,
         _ => UNREADABLE,
     }
 }
@@ -85,7 +89,7 @@ fn float(bits: u64) -> f64 {
 }
 
 // The whole number of these bits, in two's complement.
-fn whole(bits: u64) -> i64 {
+fn signed(bits: u64) -> i64 {
     if bits < 0x8000_0000_0000_0000 {
         return bits as i64;
     }
@@ -107,16 +111,16 @@ fn is_right(kind: u8, a: u64, b: u64, r: u64) -> bool {
         b'L' => same(js::js_min(float(a), float(b)), r),
         b'H' => same(js::js_max(float(a), float(b)), r),
         b'S' => same(roots::sqrt(float(a)), r),
-        b'A' => frames::frame_at(float(a)) == whole(r),
-        b'C' => frames::frame_ceil(float(a)) == whole(r),
-        b'Z' => frames::frame_from_zero(float(a)) == whole(r),
-        b'T' => same(frames::frame_seconds(whole(a)), r),
+        b'A' | b'Y' => frames::frame_at(float(a)) == signed(r),
+        b'C' => frames::frame_ceil(float(a)) == signed(r),
+        b'Z' => frames::frame_from_zero(float(a)) == signed(r),
+        b'T' => same(frames::frame_seconds(signed(a)), r),
         _ => false,
     }
 }
 
 // Adds one at a place of a tally.
-fn add(tally: &mut [u64; 10], at: usize) {
+fn add(tally: &mut [u64; 11], at: usize) {
     if at < PLACES {
         if tally[at] < u64::MAX {
             tally[at] += 1;
@@ -138,7 +142,7 @@ fn second(row: &[u8; 53]) -> Digits {
 }
 
 // Counts a row, and counts it as wrong where its answer is.
-fn judge(row: &[u8; 53], compared: &mut [u64; 10], wrong: &mut [u64; 10]) {
+fn judge(row: &[u8; 53], compared: &mut [u64; 11], wrong: &mut [u64; 11]) {
     let a = number(row, 2);
     let b = second(row);
     let r = number(row, 36);
@@ -153,7 +157,7 @@ fn judge(row: &[u8; 53], compared: &mut [u64; 10], wrong: &mut [u64; 10]) {
 }
 
 // Reads one row and judges it; answers whether to go on.
-fn take_row(compared: &mut [u64; 10], wrong: &mut [u64; 10]) -> bool {
+fn take_row(compared: &mut [u64; 11], wrong: &mut [u64; 11]) -> bool {
     let mut row = [0u8; 53];
     let n = io::read_full(STDIN_FILENO, &mut row);
     if n == 0 {
@@ -169,7 +173,7 @@ fn take_row(compared: &mut [u64; 10], wrong: &mut [u64; 10]) -> bool {
 
 // Judges every row. A proved loop has to end, and nothing says that the input does, so it counts
 // its turns down from a number that no run uses up.
-fn take_all(compared: &mut [u64; 10], wrong: &mut [u64; 10]) {
+fn take_all(compared: &mut [u64; 11], wrong: &mut [u64; 11]) {
     let mut turns = u64::MAX;
     while turns > 0 && take_row(compared, wrong) {
         turns -= 1;
@@ -186,8 +190,8 @@ fn print_line(name: &[u8], compared: u64, wrong: u64) {
 }
 
 fn main() {
-    let mut compared = [0u64; 10];
-    let mut wrong = [0u64; 10];
+    let mut compared = [0u64; 11];
+    let mut wrong = [0u64; 11];
     take_all(&mut compared, &mut wrong);
     print_line(b"toFixed ", compared[0], wrong[0]);
     print_line(b"min ", compared[1], wrong[1]);
@@ -197,8 +201,9 @@ fn main() {
     print_line(b"frame ceil ", compared[5], wrong[5]);
     print_line(b"frame from zero ", compared[6], wrong[6]);
     print_line(b"frame seconds ", compared[7], wrong[7]);
-    print_line(b"planted ", compared[8], wrong[8]);
+    print_line(b"planted toFixed ", compared[8], wrong[8]);
+    print_line(b"planted frame ", compared[9], wrong[9]);
     io::write_all(STDOUT_FILENO, b"unreadable ");
-    io::print_decimal(STDOUT_FILENO, compared[9]);
+    io::print_decimal(STDOUT_FILENO, compared[10]);
     io::write_all(STDOUT_FILENO, b"\n");
 }

@@ -11,30 +11,30 @@ use Rattle.frames.proofs.floor_i64.Tie as tie
 ceil-whole-requires : tie.Need-ceil-whole-requires
 ceil-whole-requires c κs = tt
 
-negative-requires : tie.Need-negative-requires
-negative-requires c κs = tt
+minus-to-i64-requires : tie.Need-minus-to-i64-requires
+minus-to-i64-requires c κs = tt
 
 returns : tie.Need-returns
 unfolding ofBits
 returns c =
-    read-back (c .negative .result) (c .negative .ok)
-    ∙ c .negative .ensures
+    read-back (c .minus-to-i64 .result) (c .minus-to-i64 .ok)
+    ∙ c .minus-to-i64 .ensures
     ∙ ap (λ (n : ℕ). negℤ (pos (min n (2 ^ 63)))) (c .before .ceil-whole .ensures)
     ∙ sym (floor-sign (c .before .before .before .args .x) ∙ rw (c .before .before .if1 .taken))
 
-whole-requires : tie.Need-whole-requires
-whole-requires c κs = tt
+truncated-requires : tie.Need-truncated-requires
+truncated-requires c κs = tt
 
-positive-requires : tie.Need-positive-requires
-positive-requires c κs = tt
+to-i64-requires : tie.Need-to-i64-requires
+to-i64-requires c κs = tt
 
 returns-2 : tie.Need-returns-2
 unfolding ofBits
 returns-2 c =
-    read-back (c .positive .result) (c .positive .ok)
-    ∙ c .positive .ensures
-    ∙ ap (λ (n : ℕ). pos (min n (2 ^ 63 - 1))) (c .before .whole .ensures)
+    read-back (c .to-i64 .result) (c .to-i64 .ok)
+    ∙ c .to-i64 .ensures
+    ∙ ap (λ (n : ℕ). pos (min n (2 ^ 63 - 1))) (c .before .truncated .ensures)
     ∙ sym (floor-sign (c .before .before .before .args .x) ∙ rw (c .before .before .if1 .left))
 
 pub floor-i64-spec : {M : Type 1} → statement M
-floor-i64-spec = tie.close (tie.spec ceil-whole-requires negative-requires returns whole-requires positive-requires returns-2)
+floor-i64-spec = tie.close (tie.spec ceil-whole-requires minus-to-i64-requires returns truncated-requires to-i64-requires returns-2)

@@ -10,8 +10,8 @@ use Rattle.frames.proofs.frame_index.Tie as tie
 in-frames-requires : tie.Need-in-frames-requires
 in-frames-requires c κs = tt
 
-whole-requires : tie.Need-whole-requires
-whole-requires c κs = tt
+truncated-requires : tie.Need-truncated-requires
+truncated-requires c κs = tt
 
 index-requires : tie.Need-index-requires
 index-requires c κs = tt
@@ -19,8 +19,8 @@ index-requires c κs = tt
 returns : tie.Need-returns
 unfolding frameAt
 returns c =
-    let k = c .before .whole .ensures ∙ ap (toUnsigned 64) (c .before .before .in-frames .ensures) in
+    let k = c .before .truncated .ensures ∙ ap (toUnsigned 64) (c .before .before .in-frames .ensures) in
     omega (arith, k, floor-nat (inFrames (c .before .before .before .args .t)), c .index .ensures)
 
 pub frame-index-spec : {M : Type 1} → statement M
-frame-index-spec = tie.close (tie.spec in-frames-requires whole-requires index-requires returns)
+frame-index-spec = tie.close (tie.spec in-frames-requires truncated-requires index-requires returns)

@@ -1,10 +1,10 @@
--- `frames::whole` meets its contract: in range it is std's truncation, and outside the end of the range. Assumes nothing.
+-- `frames::truncated` meets its contract: in range it is std's truncation, and outside the end of the range. Assumes nothing.
 use mathlib.Core.Path.{sym, subst}
 use lib.Dec.{T}
 use lib.Ieee.{ofBits, neg}
 use Rattle.frames.proofs.Rounding.{whole-below, whole-above}
-use Rattle.frames.proofs.whole.Statement.{statement}
-use Rattle.frames.proofs.whole.Tie as tie
+use Rattle.frames.proofs.truncated.Statement.{statement}
+use Rattle.frames.proofs.truncated.Tie as tie
 
 truncating-f64-to-u64-requires : tie.Need-truncating-f64-to-u64-requires
 unfolding ofBits neg
@@ -21,5 +21,5 @@ returns-3 : tie.Need-returns-3
 unfolding ofBits neg
 returns-3 c = whole-below (c .before .args .x) (c .if1 .left)
 
-pub whole-spec : {M : Type 1} → statement M
-whole-spec = tie.close (tie.spec truncating-f64-to-u64-requires returns returns-2 returns-3)
+pub truncated-spec : {M : Type 1} → statement M
+truncated-spec = tie.close (tie.spec truncating-f64-to-u64-requires returns returns-2 returns-3)

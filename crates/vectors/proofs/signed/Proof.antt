@@ -1,4 +1,4 @@
--- `vectors::whole` is safe: a number below 2^63 fits an i64, and so does -1 less that number. Assumes nothing.
+-- `vectors::signed` is safe: a number below 2^63 fits an i64, and so does -1 less that number. Assumes nothing.
 use mathlib.Core.Path.{sym, subst}
 use Prim.Native.Nat.{ℕ, zero, suc, _-_, _^_, _<_}
 use native.Mathlib.Omega.{arith}
@@ -7,8 +7,8 @@ use mir.Syntax.{w64}
 use mir.Val.{SFits, toZ}
 use mir.Facts.{toZ-pos}
 use borrow.Author.Needs.{needs}
-use Rattle.vectors.proofs.whole.Statement.{statement}
-use Rattle.vectors.proofs.whole.Tie as tie
+use Rattle.vectors.proofs.signed.Statement.{statement}
+use Rattle.vectors.proofs.signed.Tie as tie
 
 less : (m : ℕ) → m < 2 ^ 63 → SFits w64 (negsuc 0 -ℤ toZ w64 m)
 less m h = subst (λ (z : ℤ). SFits w64 (negsuc 0 -ℤ z)) (sym (toZ-pos w64 h)) (go m h)
@@ -35,6 +35,6 @@ sub-result-2 c = less (18446744073709551615 - c .before .args .bits) (omega arit
 returns-2 : tie.Need-returns-2
 returns-2 c = tt
 
-pub whole-spec : {M : Type 1} → statement M
-whole-spec =
+pub signed-spec : {M : Type 1} → statement M
+signed-spec =
     tie.close (tie.spec cast-result returns sub-result cast-result-2 sub-result-2 returns-2)

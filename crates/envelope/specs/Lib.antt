@@ -1,0 +1,3 @@
+-- Levels, the floor under them, and which frames are loud or quiet; the calls.
+pub mod Levels
+pub mod Calls
