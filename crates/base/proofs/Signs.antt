@@ -1,9 +1,12 @@
 -- Signs and NaN: rounding a negative number mirrors rounding its size; a comparison with NaN is false. Assumes nothing.
-use mathlib.Core.Path.{_≡_, refl}
-use Prim.Native.Nat.{ℕ, zero, suc, _+_, _-_, _*_, _/_, _%_, _^_, compare}
+use mathlib.Core.Path.{_≡_, refl, sym, _∙_}
+use Prim.Native.Nat.{ℕ, zero, suc, _+_, _-_, _*_, _/_, _%_, _^_, _<_, compare}
 use mathlib.Core.Bool.{Bool, true, false, not, cond, true≢false}
-use lib.Dec.{T, ltb}
-use lib.Ieee.{Float, nan, inf, fin, Format, prec, low, emax, lt, eq, ne, neg, isNan, round, units, odd, size, nearest}
+use native.Mathlib.Nat.{zero-mul}
+use lib.IntN.{pos}
+use lib.Dec.{T, ltb, lit<}
+use lib.Ieee.{Float, nan, inf, fin, Format, binary64, span, climb, prec, low, emax, lt, eq, ne, neg, isNan, round, units, odd, size, nearest}
+use lib.Ieee.Scale.{round-same}
 
 pub neg-neg : (x : Float) → neg (neg x) ≡ x
 unfolding neg
@@ -23,6 +26,11 @@ round-neg f a b = go (nearest (a * 2 ^ low f / (b * 2 ^ (size (a * 2 ^ low f / b
 
   go : (q k : ℕ) → units f true q k ≡ neg (units f false q k)
   go q k = pass (ltb (q * 2 ^ k) (2 ^ (low f + suc (emax f)))) q k
+
+-- nothing is +0
+pub round-zero : (den : ℕ) → 0 < den → round binary64 false 0 den ≡ fin false 0 (pos 0)
+unfolding round size span climb units odd
+round-zero den P = round-same binary64 false 0 den 0 1 P (lit< tt) (zero-mul 1 ∙ sym (zero-mul den))
 
 pub lt-nan : (x : Float) → lt x nan ≡ false
 unfolding lt

@@ -43,7 +43,7 @@ module _ (a b m n c k : ℕ) (C : 0 < c) (K : 0 < k) (ea : a * c ≡ m * k) (eb 
       ∙ ap (λ (x : Bool). eqb m n && (Bool·beq s t || x)) (eqb-units a 0 m 0 c k C K ea none)
 
 -- ---- a number's sign and size, in units; an infinity lies where the format ends
-abbrev At : Format → Float → Bool → ℕ → Type 0
+abbrev pub At : Format → Float → Bool → ℕ → Type 0
 At f nan s n = ⊥
 At f (inf t) s n = (t ≡ s) × (n ≡ overflow f)
 At f (fin t m e) s n = HasValue (fin t m e) s n (2 ^ low f) × (n < overflow f)
@@ -112,7 +112,7 @@ module _ (f : Format) where
       level-end : false ≡ level s n t L
       level-end = sym (ap (λ (x : Bool). x && (Bool·beq s t || eqb n 0)) (ne-eqb n L (λ e. omega arith)))
 
-  lt-at : (x y : Float) (s t : Bool) (m n : ℕ) → At f x s m → At f y t n → lt x y ≡ below s m t n
+  pub lt-at : (x y : Float) (s t : Bool) (m n : ℕ) → At f x s m → At f y t n → lt x y ≡ below s m t n
   unfolding lt
   lt-at nan y s t m n h k = absurd h
   lt-at (inf a) nan s t m n h k = absurd k
@@ -122,7 +122,7 @@ module _ (f : Format) where
   lt-at (fin a q e) (inf b) s t m n h k = rw (k .0, k .1) (below-end s t m (h .1))
   lt-at (fin a q e) (fin b r d) s t m n h k = rw (h .0 .0, k .0 .0) (below-units q r m n e d (h .0 .1) (k .0 .1) s t)
 
-  eq-at : (x y : Float) (s t : Bool) (m n : ℕ) → At f x s m → At f y t n → eq x y ≡ level s m t n
+  pub eq-at : (x y : Float) (s t : Bool) (m n : ℕ) → At f x s m → At f y t n → eq x y ≡ level s m t n
   unfolding eq
   eq-at nan y s t m n h k = absurd h
   eq-at (inf a) nan s t m n h k = absurd k
@@ -189,7 +189,7 @@ module _ (f : Format) where
       ∙ ap (λ (c : ℕ). ltb c (rank (b .sign) (b .size))) (sym (a .is))
       ∙ ap (ltb p) (sym (b .is))
 
-  has-rank : (x : Float) → T (fits f x) → T (not (isNan x)) → (r : ℕ) × Rank x r
+  pub has-rank : (x : Float) → T (fits f x) → T (not (isNan x)) → (r : ℕ) × Rank x r
   unfolding isNan neg
   has-rank nan t n = absurd n
   has-rank (inf s) t n = (rank s L, record { sign = s; size = L; at = (refl, refl); is = refl })
@@ -230,11 +230,13 @@ module _ (f : Format) where
   at-number (inf c) s m h = refl
   at-number (fin c q e) s m h = refl
 
-  -- the maximum is where the higher rank is
-  max-rank : (x y : Float) (p q : ℕ) → Rank x p → Rank y q → Rank (jsMax x y) (max p q)
+  -- the maximum is the one that has the higher rank
+  pub max-pick : (x y : Float) (p q : ℕ) → Rank x p → Rank y q → jsMax x y ≡ cond (ltb p q) y x
   unfolding jsMax
-  max-rank x y p q a b =
-      rw (at-number x (a .sign) (a .size) (a .at), at-number y (b .sign) (b .size) (b .at), under-rank x y p q a b) (go (ltb p q) refl)
+  max-pick x y p q a b = rw (at-number x (a .sign) (a .size) (a .at), at-number y (b .sign) (b .size) (b .at), under-rank x y p q a b)
+
+  max-rank : (x y : Float) (p q : ℕ) → Rank x p → Rank y q → Rank (jsMax x y) (max p q)
+  max-rank x y p q a b = rw (max-pick x y p q a b) (go (ltb p q) refl)
     where
       go : (t : Bool) → ltb p q ≡ t → Rank (cond t y x) (max p q)
       go true t = subst (Rank y) (omega (arith, ltb-true p q t)) b
@@ -248,11 +250,10 @@ ranked : (x : Float) → Number x → (r : ℕ) × Rank binary64 x r
 ranked x n = has-rank binary64 x (n .0) (n .1)
 
 pub jsMax-either : (x y : Float) → Number x → Number y → (jsMax x y ≡ x) ⊎ (jsMax x y ≡ y)
-unfolding jsMax
 jsMax-either x y n k =
-    let a = ranked x n .1 in
-    let b = ranked y k .1 in
-    rw (at-number binary64 x (a .sign) (a .size) (a .at), at-number binary64 y (b .sign) (b .size) (b .at)) (go (under x y))
+    let a = ranked x n in
+    let b = ranked y k in
+    rw (max-pick binary64 x y (a .0) (b .0) (a .1) (b .1)) (go (ltb (a .0) (b .0)))
   where
     go : (t : Bool) → (cond t y x ≡ x) ⊎ (cond t y x ≡ y)
     go true = inr refl

@@ -8,15 +8,14 @@ use borrow.Author.Tests.{ltb-true, ltb-false, lt-ltb, leb-true, leb-false, lt-le
 use lib.IntN.{ℤ, pos}
 use lib.Dec.{T, leb, ltb, lit<, lit≤}
 use lib.Pow.{pow-add, pow-pos, pow-mono}
-use lib.Ieee.{Float, nan, inf, fin, binary64, emax, low, up, down, size, span, climb, units, odd, round, sum, add, fits, neg, lt}
+use lib.Ieee.{Float, nan, inf, fin, binary64, emax, low, up, down, size, units, round, sum, add, fits, neg, lt}
 use lib.Ieee.Digits.{size-lt, size-reaches}
 use lib.Ieee.Fits.{up-pos, down-pos, neg-fits}
 use lib.Ieee.Exact.{HasValue, units-val}
 use lib.Ieee.Nearest.{div-same}
-use lib.Ieee.Scale.{round-same}
 use Rattle.base.proofs.Bits.{size-gt, units-fits}
 use Rattle.base.proofs.Units.{pow-split, gap, in-range, same-value, in-units}
-use Rattle.base.proofs.Signs.{round-neg}
+use Rattle.base.proofs.Signs.{round-neg, round-zero}
 use Rattle.base.proofs.Near.{round-near}
 use Rattle.js.specs.Js.{nearestUp, jsToFixed}
 
@@ -112,10 +111,6 @@ pub fixed-below : (x : Float) (X D : ℕ) → 0 < D → HasValue x false X D →
 fixed-below x X D P h l =
     fixed-is x X D P h
     ∙ ap (λ (t : Bool). cond t x (round binary64 false (nearestUp (X * 1000) D) 1000)) (lt-leb (10 ^ 21 * D) X (lt-of-lt-of-le l (mul-le-mul-right D (lit≤ tt))))
-
-pub round-zero : (den : ℕ) → 0 < den → round binary64 false 0 den ≡ fin false 0 (pos 0)
-unfolding round size span climb units odd
-round-zero den P = round-same binary64 false 0 den 0 1 P (lit< tt) (zero-mul 1 ∙ sym (zero-mul den))
 
 -- a number below 2 ^ -11 has no thousandth: less than half of one
 pub fixed-none : (x : Float) (X D : ℕ) → 0 < D → HasValue x false X D → X * 2048 < D → jsToFixed x ≡ fin false 0 (pos 0)

@@ -1,0 +1,11 @@
+-- What a change of loudness by a power of two, or of polarity, leaves as it is. The theorems are in Rows; other crates may cite them.
+mod Lists
+mod Rounding
+mod Twin
+mod Compare
+mod Floor
+mod Sizes
+mod Samples
+mod Levels
+pub mod Rows
+mod Example

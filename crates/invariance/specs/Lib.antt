@@ -1,0 +1,2 @@
+-- When two recordings are one, louder or softer by a power of two, and perhaps reversed.
+pub mod Scaled
