@@ -226,3 +226,20 @@ module _ {S : Type 0} where
         go : (b : ℤ) → o (runBack f (toNat (pos k -ℤ b)) (predℤ (pos k)) (on s)) ≡ o (runBack f (k - toNat b) (predℤ (pos k)) (on s))
         go (pos b) = rw (sub-nat k b)
         go (negsuc j) = rw sub-zero (back-more (suc j) k (on s))
+
+-- what a turn hands on, the loop hands on to its end
+pub each-holds : {S : Type 0} (P : ℕ → S → Type 0) (f : ℕ → S → S) (e : ℕ) → ((i : ℕ) (s : S) → i < e → P i s → P (suc i) (f i s))
+    → (n i : ℕ) (s : S) → i + n ≡ e → P i s → P e (each f n i s)
+unfolding each
+each-holds P f e step zero i s h p = let z : i ≡ e = omega arith in rw z at p
+each-holds P f e step (suc n) i s h p = each-holds P f e step n (suc i) (f i s) (omega arith) (step i s (omega arith) p)
+
+-- two loops that are related turn by turn are related at their end
+pub each-alike : {S T : Type 0} (R : ℕ → S → T → Type 0) (f : ℕ → S → S) (g : ℕ → T → T) (a e : ℕ)
+    → ((i : ℕ) (s : S) (t : T) → i < e → R i s t → R (suc i) (f (a + i) s) (g i t))
+    → (n i : ℕ) (s : S) (t : T) → i + n ≡ e → R i s t → R e (each f n (a + i) s) (each g n i t)
+unfolding each
+each-alike R f g a e step zero i s t h r = let z : i ≡ e = omega arith in rw z at r
+each-alike R f g a e step (suc n) i s t h r =
+    let z : suc (a + i) ≡ a + suc i = omega arith in
+    rw z (each-alike R f g a e step n (suc i) (f (a + i) s) (g i t) (omega arith) (step i s t (omega arith) r))

@@ -1,13 +1,14 @@
 -- The table of document 01's cases marked ●, each as it stands there. Assumes nothing.
-use Prim.Native.Nat.{ℕ}
+use Prim.Native.Nat.{ℕ, _+_, _-_, _*_}
 use mathlib.Core.Bool.{Bool, true, false}
 use mathlib.Core.Path.{_≡_}
 use lib.IntN.{pos}
 use lib.Ieee.{Float, fin, binary64, round}
-use mathlib.Core.List.{[], _∷_}
+use mathlib.Core.List.{List, [], _∷_, _++_}
 use lib.ListN.{replicate}
 use Rattle.js.specs.Js.{jsToFixed}
-use Rattle.envelope.specs.Levels.{level, quietRow}
+use Rattle.envelope.specs.Levels.{hop, level, quietRow}
+use Rattle.pieces.specs.Pieces.{cut}
 
 -- ---- The double that a decimal number stands for: the nearest to n / d, with a sign.
 abbrev pub double : Bool → ℕ → ℕ → Float
@@ -15,6 +16,10 @@ double negative n d = round binary64 negative n d
 
 abbrev pub zero : Bool → Float
 zero negative = fin negative 0 (pos 0)
+
+-- ---- 2,001 frames, of which n from frame a on are quiet.
+abbrev pub quietFrames : ℕ → ℕ → List Bool
+quietFrames a n = replicate a false ++ (replicate n true ++ replicate (2001 - (a + n)) false)
 
 pub record Table : Type 0 where
   -- Numbers: "● 0.0625 gives 0.063; ● -0.0625 gives -0.063; ● -0.0001 gives -0; ● -0 gives +0."
@@ -25,3 +30,9 @@ pub record Table : Type 0 where
   -- Levels: "● 160 samples of 0.5: level 0.5. ● A level equal to the floor: quiet."
   pub level-of-half : level (replicate 160 (double false 1 2)) ≡ double false 1 2
   pub quiet-at-floor : quietRow (double false 5 1000) (double false 5 1000 ∷ []) ≡ true ∷ []
+  -- Pieces: "2,001 frames: ● all quiet, cut 1,599 (sample 255,840); ● none quiet, 2,000; ● only 1,200 to 1,207 quiet, 1,203; ● only 1,992 to 1,999, 1,995"
+  pub all-quiet : cut (quietFrames 0 2001) 0 ≡ 1599
+  pub all-quiet-sample : cut (quietFrames 0 2001) 0 * hop ≡ 255840
+  pub none-quiet : cut (quietFrames 0 0) 0 ≡ 2000
+  pub first-quiet : cut (quietFrames 1200 8) 0 ≡ 1203
+  pub last-quiet : cut (quietFrames 1992 8) 0 ≡ 1995

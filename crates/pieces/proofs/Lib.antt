@@ -1,0 +1,7 @@
+-- Laws of the pieces.
+pub mod Cuts
+pub mod Parts
+pub mod Walk
+pub mod Passes
+pub mod Rules
+pub mod Calls

@@ -1,0 +1,3 @@
+-- Pieces of a recording, cut in its quiet.
+pub mod Pieces
+pub mod Parts
