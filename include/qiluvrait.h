@@ -2,14 +2,21 @@
  * qiluvrait: quiet points and word times for recorded speech.
  *
  * The functions of the static library libc_api.a (`rt staticlib c_api` makes it), for C99 and C++.
- * Each takes every value of its arguments, keeps no state, reads no memory but its arguments, and
- * may be called from several threads at once. Where NaN is returned, its sign and payload are free.
+ * Each takes every value of its arguments, keeps no state, reads and writes no memory but what it is
+ * lent, and may be called from several threads at once. Where NaN is returned, its sign and payload
+ * are free. A pointer is lent with the number of its elements, and no two lent parts overlap.
+ *
+ * A call that can refuse answers a refusal: 0 where it accepts, else document 01's number, and then
+ * lent memory keeps its bits. Here: 4 too many samples, 6 too few places, 7 a number of levels that
+ * isn't samples / 160, rounded down.
  *
  * Times are in seconds. A frame is 160 samples at 16,000 samples a second: 10 ms.
  */
 #ifndef QILUVRAIT_H
 #define QILUVRAIT_H
 
+#include <stdbool.h>
+#include <stddef.h>
 #include <stdint.h>
 
 #ifdef __cplusplus
@@ -50,6 +57,37 @@ int64_t qiluvrait_frame_from_zero(double t);
 
 /* The time at which frame k starts: k * 160, exact and rounded to double, then / 16000. */
 double qiluvrait_frame_seconds(int64_t k);
+
+/* What qiluvrait_envelope answers: the floor under the levels; 0 where it refuses. */
+struct qiluvrait_heard {
+    uint32_t refusal;
+    double floor;
+};
+
+/*
+ * The level of each frame of 160 samples, in the first samples / 160 places of levels; further places
+ * stay. The floor is a hundredth of the loudest level, and of 1e-9 where that is louder. Refusals: 4
+ * above 57,600,000 samples, 6 for fewer places than frames.
+ */
+struct qiluvrait_heard qiluvrait_envelope(const float *samples, size_t samples_len, double *levels,
+                                          size_t levels_len);
+
+/* Whether a floor is the one that these levels give, bit for bit (any NaN like any other). */
+bool qiluvrait_own_floor(const double *levels, size_t levels_len, double floor);
+
+/* What qiluvrait_pieces answers: the number of pieces; 0 where it refuses. */
+struct qiluvrait_cut {
+    uint32_t refusal;
+    size_t pieces;
+};
+
+/*
+ * The pieces of a recording of count samples, from its levels and their floor: the first sample and
+ * the end of each, in the first places of starts and ends; further places stay. Needs
+ * (frames - 1) / 1203 + 1 places in each, and none for no frame. Refusals: 4, 7, 6.
+ */
+struct qiluvrait_cut qiluvrait_pieces(const double *levels, size_t levels_len, double floor, size_t count,
+                                      size_t *starts, size_t starts_len, size_t *ends, size_t ends_len);
 
 #ifdef __cplusplus
 }

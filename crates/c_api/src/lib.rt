@@ -4,6 +4,9 @@ ghost use mathlib.Core.Path.{_≡_};
 ghost use lib.Ieee.{binary64};
 ghost use Rattle.js.specs.Js.{jsMin, jsMax, jsToFixed};
 ghost use Rattle.roots.specs.Sqrt.{sqrt as sqrtOf};
+ghost use Rattle.envelope.specs.Calls.{envelopeCall, ownFloor};
+ghost use Rattle.pieces.specs.Pieces.{piecesCall};
+ghost use Rattle.c_api.specs.Answers.{heardOf, cutOf};
 ghost use Rattle.frames.specs.Frames.{frameAt, frameCeil, frameFromZero, frameSeconds};
 
 #[no_mangle]
@@ -60,4 +63,74 @@ pub extern "C" fn qiluvrait_frame_seconds(k: i64) -> f64
     ensures { λ r. ⌜ r ≡ frameSeconds k ⌝ }
 {
     frames::frame_seconds(k)
+}
+
+// What qiluvrait_envelope answers: refusal 0 and the floor, or the number of the refusal.
+#[repr(C)]
+pub struct QiluvraitHeard {
+    pub refusal: u32,
+    pub floor: f64,
+}
+
+// An answer of envelope::envelope, as numbers.
+fn heard(answer: envelope::Answer) -> QiluvraitHeard
+    ensures { λ r. ⌜ r ≡ heardOf answer ⌝ }
+{
+    match answer {
+        envelope::Answer::Accepted(floor) => QiluvraitHeard { refusal: 0, floor },
+        envelope::Answer::Refused(why) => QiluvraitHeard {
+            refusal: base::number(why),
+            floor: 0.0,
+        },
+    }
+}
+
+#[no_mangle]
+pub extern "C" fn qiluvrait_envelope(samples: &[f32], levels: &mut [f64]) -> QiluvraitHeard
+    ensures { λ r. ⌜ (r ≡ heardOf (envelopeCall (now (samples .entry)) (now (levels .entry)) .answer)) × (now (levels .exit) ≡ envelopeCall (now (samples .entry)) (now (levels .entry)) .places) ⌝ }
+{
+    heard(envelope::envelope(samples, levels))
+}
+
+#[no_mangle]
+pub extern "C" fn qiluvrait_own_floor(levels: &[f64], floor: f64) -> bool
+    ensures { λ r. ⌜ r ≡ ownFloor (now (levels .entry)) floor ⌝ }
+{
+    envelope::own_floor(levels, floor)
+}
+
+// What qiluvrait_pieces answers: refusal 0 and the number of pieces, or the number of the refusal.
+#[repr(C)]
+pub struct QiluvraitCut {
+    pub refusal: u32,
+    pub pieces: usize,
+}
+
+// An answer of pieces::pieces_at, as numbers.
+fn cut(answer: pieces::Answer) -> QiluvraitCut
+    ensures { λ r. ⌜ r ≡ cutOf answer ⌝ }
+{
+    match answer {
+        pieces::Answer::Accepted(n) => QiluvraitCut {
+            refusal: 0,
+            pieces: n,
+        },
+        pieces::Answer::Refused(why) => QiluvraitCut {
+            refusal: base::number(why),
+            pieces: 0,
+        },
+    }
+}
+
+#[no_mangle]
+pub extern "C" fn qiluvrait_pieces(
+    levels: &[f64],
+    floor: f64,
+    count: usize,
+    starts: &mut [usize],
+    ends: &mut [usize],
+) -> QiluvraitCut
+    ensures { λ r. ⌜ (r ≡ cutOf (piecesCall (now (levels .entry)) floor count (now (starts .entry)) (now (ends .entry)) .answer)) × ((now (starts .exit) ≡ piecesCall (now (levels .entry)) floor count (now (starts .entry)) (now (ends .entry)) .starts) × (now (ends .exit) ≡ piecesCall (now (levels .entry)) floor count (now (starts .entry)) (now (ends .entry)) .ends)) ⌝ }
+{
+    cut(pieces::pieces_at(levels, floor, count, starts, ends))
 }
