@@ -3,6 +3,7 @@ ghost use mathlib.Core.Path.{_≡_};
 ghost use mathlib.Core.Bool.{_&&_, _||_};
 ghost use Prim.Native.Nat.{_+_, _≤_, _<_};
 ghost use lib.Dec.{leb, ltb};
+ghost use lib.Ieee.{le};
 ghost use lib.ListN.{length};
 ghost use Rattle.base.specs.Refusals.{first};
 ghost use Rattle.checks.specs.Limits.{fewPlaces};
@@ -34,6 +35,13 @@ struct Quiet {
     middle: usize,
 }
 
+// A quiet frame, by its level; with a NaN it is not one (document 01, "Levels").
+fn is_quiet(level: f64, floor: f64) -> bool
+    ensures { λ r. ⌜ r ≡ le level floor ⌝ }
+{
+    level <= floor
+}
+
 // The quiet run, with one frame more.
 fn next_run(quiet: bool, run: usize) -> usize
     requires { ⌜ run < 800 ⌝ }
@@ -60,7 +68,8 @@ fn search_frame(part: &[f64], floor: f64, k: usize, q: Quiet) -> Quiet
     requires { ⌜ (length (now part) ≡ 800) × ((k < 800) × (q .run ≤ k)) ⌝ }
     ensures { λ r. ⌜ Stepped (quietRow floor (now (part .entry))) k q r ⌝ }
 {
-    let run = next_run(part[k] <= floor, q.run);
+    let quiet = is_quiet(part[k], floor);
+    let run = next_run(quiet, q.run);
     if is_longer(run, q.longest) {
         return Quiet {
             run,
