@@ -13,10 +13,18 @@ use std::{env, fs};
 const TAKEN: &[(&str, &str)] = &[
     ("js", "js.rs"),
     ("transcript::envelope", "transcript/envelope.rs"),
+    ("transcript::pieces", "transcript/pieces.rs"),
 ];
 
+/// Functions of voxr that are taken without the rest of their file: a stand-in includes each.
+const CUT_OUT: &[(&str, &str)] = &[("peak", "transcript/transcriber.rs")];
+
 /// Stand-ins, by the module of voxr in whose place they stand.
-const STAND_INS: &[(&str, &str)] = &[("js_math", "js_math.rs")];
+const STAND_INS: &[(&str, &str)] = &[
+    ("check", "check.rs"),
+    ("js_math", "js_math.rs"),
+    ("transcript::transcriber", "transcriber.rs"),
+];
 
 /// What stands in a module: further modules, and the file of each that is a file.
 #[derive(Default)]
@@ -66,6 +74,17 @@ fn file(path: PathBuf, variable: &str) -> PathBuf {
     path
 }
 
+/// The text of a function, unchanged: from its `fn` to the brace that closes it.
+fn cut_out(name: &str, path: &Path) -> String {
+    let text = fs::read_to_string(path).unwrap();
+    let start = text.find(&format!("\nfn {name}("));
+    let function = start.and_then(|start| {
+        let length = text[start..].find("\n}\n")?;
+        Some(text[start + 1..start + length + 3].to_string())
+    });
+    function.unwrap_or_else(|| fail(&format!("no function {name} in {}", path.display())))
+}
+
 fn fail(message: &str) -> ! {
     println!("cargo::error={message}");
     std::process::exit(1);
@@ -86,7 +105,11 @@ fn main() {
     let mut text = String::new();
     modules.write(&mut text);
     let out = PathBuf::from(env::var_os("OUT_DIR").unwrap());
-    fs::write(Path::new(&out).join("voxr.rs"), text).unwrap();
+    fs::write(out.join("voxr.rs"), text).unwrap();
+    for (name, source) in CUT_OUT {
+        let source = file(voxr.join(source), "VOXR_SRC");
+        fs::write(out.join(format!("{name}.rs")), cut_out(name, &source)).unwrap();
+    }
 
     let library = folder("QILUVRAIT_LIB", "the folder that holds libc_api.a");
     file(library.join("libc_api.a"), "QILUVRAIT_LIB");

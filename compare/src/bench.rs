@@ -11,7 +11,7 @@ use crate::transcript::envelope::frame_at;
 /// Inputs of one run.
 const INPUTS: usize = 100_000;
 
-fn median(mut values: Vec<f64>) -> f64 {
+pub fn median(mut values: Vec<f64>) -> f64 {
     values.sort_by(f64::total_cmp);
     values[values.len() / 2]
 }

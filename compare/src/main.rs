@@ -2,28 +2,52 @@
 
 mod bench;
 mod ffi;
+mod heard;
+mod hour;
 mod inputs;
 mod numbers;
+#[cfg(feature = "peak")]
+mod peak;
+mod pieces;
+mod places;
+mod recordings;
 mod report;
+mod rows;
 
 // The files of voxr and the stand-ins, as modules of this package (build.rs).
 include!(concat!(env!("OUT_DIR"), "/voxr.rs"));
 
 use std::process::ExitCode;
 
+use report::Compared;
+
 const SEED: u64 = 0x5EED_0000_0000_0001;
 const CASES: u64 = 10_000_000;
 const RUNS: usize = 15;
+const HOUR_RUNS: usize = 5;
 
 const USAGE: &str = "\
-usage: compare [CASES [NAME..]]    compare, CASES random cases of each function (10000000)
-       compare bench [RUNS]        time both sides, medians over RUNS runs (15)";
+usage: compare [CASES [NAME..]]    compare, CASES random cases of each function of numbers
+                                   (10000000), and fewer of the others
+       compare bench [RUNS]        time both sides, medians over RUNS runs (15; of an hour 5)";
 
-fn entries() -> Vec<&'static dyn report::Compared> {
-    let numbers = numbers::NUMBERS.iter();
-    numbers
-        .map(|entry| entry as &dyn report::Compared)
-        .collect()
+fn all<T: Compared>(list: &'static [T]) -> impl Iterator<Item = &'static dyn Compared> {
+    list.iter().map(|entry| entry as &dyn Compared)
+}
+
+fn entries() -> Vec<&'static dyn Compared> {
+    let entries = all(numbers::NUMBERS);
+    let entries = entries.chain(all(heard::OF_RECORDINGS));
+    let entries = entries.chain(all(pieces::OF_ROWS));
+    #[cfg(feature = "peak")]
+    let entries = entries.chain(all(&[peak::Peak]));
+    entries.collect()
+}
+
+fn bench(runs: Option<usize>) -> ExitCode {
+    bench::bench(SEED, runs.unwrap_or(RUNS));
+    hour::bench(SEED, runs.unwrap_or(HOUR_RUNS));
+    ExitCode::SUCCESS
 }
 
 fn compare(cases: u64, names: &[String]) -> ExitCode {
@@ -36,7 +60,10 @@ fn compare(cases: u64, names: &[String]) -> ExitCode {
         eprintln!("no function {name}\n{USAGE}");
         return ExitCode::from(2);
     }
-    println!("seed {SEED:016X}; {cases} random cases of each function, and the limit cases");
+    println!(
+        "seed {SEED:016X}; {cases} random cases of each function of numbers, fewer of the others, \
+         and the limit cases"
+    );
     let mut agree = true;
     for entry in entries.iter().filter(|e| is_named(e.name())) {
         agree &= report::compare(*entry, SEED, cases);
@@ -58,14 +85,8 @@ fn main() -> ExitCode {
     };
     match (arguments.first().map(String::as_str), number(0), number(1)) {
         (None, _, _) => compare(CASES, &[]),
-        (Some("bench"), _, None) => {
-            bench::bench(SEED, RUNS);
-            ExitCode::SUCCESS
-        }
-        (Some("bench"), _, Some(Ok(runs))) if runs > 0 => {
-            bench::bench(SEED, runs as usize);
-            ExitCode::SUCCESS
-        }
+        (Some("bench"), _, None) => bench(None),
+        (Some("bench"), _, Some(Ok(runs))) if runs > 0 => bench(Some(runs as usize)),
         (Some(_), Some(Ok(cases)), _) => compare(cases, &arguments[1..]),
         _ => {
             eprintln!("{USAGE}");

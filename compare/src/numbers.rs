@@ -3,7 +3,7 @@
 use crate::ffi::*;
 use crate::inputs::{Random, frame_limits, limits};
 use crate::js::{js_max, js_min, js_to_fixed};
-use crate::report::Compared;
+use crate::report::{Case, Compared};
 use crate::transcript::envelope::{frame_at, frame_ceil, frame_from_zero, frame_seconds};
 
 /// A function of one or two numbers, ours and the Rust's, over the bits of each number.
@@ -112,6 +112,10 @@ impl Number {
             "{a:016X}{second}: ours {ours:016X}, the Rust's {rust:016X}"
         ))
     }
+
+    fn case(&self, a: u64, b: u64) -> Case {
+        Case::new(1, self.differs(a, b))
+    }
 }
 
 impl Compared for Number {
@@ -119,22 +123,22 @@ impl Compared for Number {
         self.name
     }
 
-    fn limits(&self) -> Vec<Option<String>> {
+    fn limits(&self) -> Vec<Case> {
         match self.takes {
-            One => limits().iter().map(|&x| self.differs(x, 0)).collect(),
-            Frame => frame_limits().iter().map(|&k| self.differs(k, 0)).collect(),
+            One => limits().iter().map(|&x| self.case(x, 0)).collect(),
+            Frame => frame_limits().iter().map(|&k| self.case(k, 0)).collect(),
             Two => {
                 let list = limits();
                 let pairs = list.iter().flat_map(|&a| list.iter().map(move |&b| (a, b)));
-                pairs.map(|(a, b)| self.differs(a, b)).collect()
+                pairs.map(|(a, b)| self.case(a, b)).collect()
             }
         }
     }
 
-    fn random(&self, random: &mut Random) -> Option<String> {
+    fn random(&self, random: &mut Random) -> Case {
         match self.takes {
-            One => self.differs(random.float(), 0),
-            Frame => self.differs(random.frame(), 0),
+            One => self.case(random.float(), 0),
+            Frame => self.case(random.frame(), 0),
             Two => {
                 let a = random.float();
                 // one time in four the same magnitude, of either sign
@@ -144,7 +148,7 @@ impl Compared for Number {
                 } else {
                     random.float()
                 };
-                self.differs(a, b)
+                self.case(a, b)
             }
         }
     }

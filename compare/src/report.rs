@@ -6,13 +6,32 @@ use std::thread;
 
 use crate::inputs::Random;
 
-/// What is compared: it answers, for a case, what differs there, or nothing.
+/// What a case found: how many things it compared, and the first of them that differs.
+pub struct Case {
+    pub compared: u64,
+    pub difference: Option<String>,
+}
+
+impl Case {
+    pub fn new(compared: usize, difference: Option<String>) -> Case {
+        Case {
+            compared: compared as u64,
+            difference,
+        }
+    }
+}
+
+/// What is compared, case by case.
 pub trait Compared: Sync {
     fn name(&self) -> &str;
     /// The limit cases, each once.
-    fn limits(&self) -> Vec<Option<String>>;
+    fn limits(&self) -> Vec<Case>;
     /// One case that the generator draws.
-    fn random(&self, random: &mut Random) -> Option<String>;
+    fn random(&self, random: &mut Random) -> Case;
+    /// A case stands for so many cases of a function of numbers.
+    fn weight(&self) -> u64 {
+        1
+    }
 }
 
 /// The random cases come in this many parts, each with a generator of its own, so that they are
@@ -23,6 +42,7 @@ const SHOWN: usize = 5;
 
 #[derive(Default)]
 struct Found {
+    cases: u64,
     compared: u64,
     differences: u64,
     /// The first differences, with the place of each: the part, and the case in it.
@@ -30,16 +50,18 @@ struct Found {
 }
 
 impl Found {
-    fn case(&mut self, part: u64, difference: Option<String>) {
-        self.compared += 1;
-        let Some(text) = difference else { return };
+    fn case(&mut self, part: u64, case: Case) {
+        self.cases += 1;
+        self.compared += case.compared;
+        let Some(text) = case.difference else { return };
         self.differences += 1;
         if self.shown.len() < SHOWN {
-            self.shown.push((part, self.compared, text));
+            self.shown.push((part, self.cases, text));
         }
     }
 
     fn join(&mut self, other: Found) {
+        self.cases += other.cases;
         self.compared += other.compared;
         self.differences += other.differences;
         self.shown.extend(other.shown);
@@ -57,11 +79,12 @@ fn part(entry: &dyn Compared, seed: u64, cases: u64, part: u64) -> Found {
     found
 }
 
-/// Compares the limit cases and `cases` random ones. Prints a line, and answers whether all agree.
+/// Compares the limit cases and the random ones. Prints a line, and answers whether all agree.
 pub fn compare(entry: &dyn Compared, seed: u64, cases: u64) -> bool {
+    let cases = cases.div_ceil(entry.weight());
     let mut limits = Found::default();
-    for difference in entry.limits() {
-        limits.case(0, difference);
+    for case in entry.limits() {
+        limits.case(0, case);
     }
     let found = Mutex::new(limits);
     let next = AtomicU64::new(1);

@@ -1,4 +1,4 @@
-"""Writes the rows of square roots and frames, worked out in whole numbers (compare/README.md).
+"""Writes the rows of square roots, frames and cuts, worked out in whole numbers (compare/README.md).
 
 Each answer is also held to what the machine's doubles give: math.sqrt, and *, / and floor.
 """
@@ -23,8 +23,8 @@ def bits_of(x):
     return NAN if x != x else struct.unpack("<Q", struct.pack("<d", x))[0]
 
 
-def row(kind, a, r):
-    print(f"{kind} {a:016X} {0:016X} {r % (1 << 64):016X}")
+def row(kind, a, r, b=0):
+    print(f"{kind} {a:016X} {b:016X} {r % (1 << 64):016X}")
 
 
 def nearest(value):
@@ -166,6 +166,20 @@ def frames(rng):
         yield from (k, -k)
 
 
+# ---- pieces (document 01, Pieces)
+
+# The document's cases: the frames, the first quiet one, the number of quiet ones, and the frame in
+# which the first piece ends.
+CUTS = [
+    (2000, 0, 0, 2000),
+    (2001, 0, 2001, 1599),
+    (2001, 0, 0, 2000),
+    (2001, 1200, 8, 1203),
+    (2001, 1992, 8, 1995),
+    (2001, 1993, 7, 2000),
+]
+
+
 # ---- the same by the machine's doubles
 
 
@@ -199,6 +213,8 @@ def main():
         seconds = frame_seconds(k)
         assert seconds == bits_of(float(k * 160) / 16000.0) | (SIGN if k < 0 else 0), k
         row("T", k % (1 << 64), seconds)
+    for n, first, quiet, end in CUTS:
+        row("P", n << 32 | first, end * 160, quiet)
     # The planted row: 0.29 falls in frame 29, and this says 28.
     row("Y", bits_of(0.29), 28)
 

@@ -3,4 +3,5 @@ pub mod Places
 pub mod Limits
 pub mod Floors
 pub mod Promises
+pub mod Walks
 mod Witnesses

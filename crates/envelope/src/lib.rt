@@ -10,6 +10,8 @@ ghost use Rattle.envelope.specs.Calls.{output, tests, accepted, envelope
 use base::Refusal;
 use base::Rule;
 
+pub mod view;
+
 // Samples in a frame.
 const HOP: usize = 160;
 

@@ -1,5 +1,5 @@
-// Replays stored answers: a JavaScript engine's toFixed, min and max, and exact roots and frames
-// (compare/README.md says how they were made). Standard input has a row of 53 bytes for each:
+// Replays stored answers: a JavaScript engine's toFixed, min and max, exact roots and frames, and
+// cuts (compare/README.md says how they were made). Standard input has a row of 53 bytes for each:
 //
 //     K AAAAAAAAAAAAAAAA BBBBBBBBBBBBBBBB RRRRRRRRRRRRRRRR
 //
@@ -8,6 +8,8 @@
 //
 //     F toFixed   L min (lower)   H max (higher)   S square root
 //     A frame_at  C frame_ceil    Z frame_from_zero  T frame_seconds (time)
+//     P pieces: the upper half of A is the number of frames, at most 2,048; B of them from the lower
+//       half of A on are quiet, and the others are loud; R is the end of the first piece, in samples
 //     X toFixed and Y frame_at, one row each, with an answer that is one step off on purpose, so
 //       that the output shows that a wrong answer is seen
 ghost use mathlib.Core.Path.{_≡_};
@@ -17,9 +19,15 @@ use libc::STDIN_FILENO;
 use libc::STDOUT_FILENO;
 
 // The places of a tally: one for each kind of row, and the last for what is no row.
-const PLACES: usize = 11;
+const PLACES: usize = 12;
 
-const UNREADABLE: usize = 10;
+const UNREADABLE: usize = 11;
+
+// The most frames of a row of pieces.
+const FRAMES: usize = 2048;
+
+// Samples in a frame.
+const HOP: usize = 160;
 
 // The place of a kind in a tally.
 fn place(kind: u8) -> usize {
@@ -34,6 +42,7 @@ fn place(kind: u8) -> usize {
         b'T' => 7,
         b'X' => 8,
         b'Y' => 9,
+        b'P' => 10,
         _ => UNREADABLE,
     }
 }
@@ -104,6 +113,48 @@ fn same(x: f64, bits: u64) -> bool {
     f64::to_bits(x) == bits
 }
 
+// Makes so many frames quiet, from the first on.
+fn silence(levels: &mut [f64], first: usize, quiet: usize) {
+    let mut i = first;
+    while i < levels.len() && i - first < quiet {
+        levels[i] = 0.0;
+        i += 1;
+    }
+}
+
+// The end of the first of one or two pieces; 0 where the end of the last is not the recording's.
+fn first_end(n: usize, first: usize, second: usize, count: usize) -> usize {
+    if n == 1 && first == count {
+        return first;
+    }
+    if n == 2 && second == count && first < count {
+        return first;
+    }
+    0
+}
+
+// The end of the first piece of so many frames; 0 where there is none.
+fn cut(levels: &[f64], frames: usize) -> usize {
+    if frames > levels.len() || frames > FRAMES {
+        return 0;
+    }
+    let mut starts = [0usize; 2];
+    let mut ends = [0usize; 2];
+    let count = frames * HOP;
+    let answer = pieces::pieces_at(&levels[..frames], 0.5, count, &mut starts, &mut ends);
+    match answer {
+        pieces::Answer::Accepted(n) => first_end(n, ends[0], ends[1], count),
+        pieces::Answer::Refused(_) => 0,
+    }
+}
+
+// Whether the first piece of a row of pieces ends at sample r.
+fn is_cut(a: u64, b: u64, r: u64) -> bool {
+    let mut levels = [1.0; 2048];
+    silence(&mut levels, (a & 0xffff_ffff) as usize, b as usize);
+    cut(&levels, (a >> 32) as usize) == r as usize
+}
+
 // Whether r is the answer for a and b, for each kind of row.
 fn is_right(kind: u8, a: u64, b: u64, r: u64) -> bool {
     match kind {
@@ -115,12 +166,13 @@ fn is_right(kind: u8, a: u64, b: u64, r: u64) -> bool {
         b'C' => frames::frame_ceil(float(a)) == signed(r),
         b'Z' => frames::frame_from_zero(float(a)) == signed(r),
         b'T' => same(frames::frame_seconds(signed(a)), r),
+        b'P' => is_cut(a, b, r),
         _ => false,
     }
 }
 
 // Adds one at a place of a tally.
-fn add(tally: &mut [u64; 11], at: usize) {
+fn add(tally: &mut [u64; 12], at: usize) {
     if at < PLACES {
         if tally[at] < u64::MAX {
             tally[at] += 1;
@@ -133,16 +185,16 @@ fn is_spaced(row: &[u8; 53]) -> bool {
     row[1] == b' ' && row[18] == b' ' && row[35] == b' ' && row[52] == b'\n'
 }
 
-// The second input: only min and max have one.
+// The second input: only min, max and pieces have one.
 fn second(row: &[u8; 53]) -> Digits {
-    if row[0] == b'L' || row[0] == b'H' {
+    if row[0] == b'L' || row[0] == b'H' || row[0] == b'P' {
         return number(row, 19);
     }
     Digits { bits: 0, seen: 0 }
 }
 
 // Counts a row, and counts it as wrong where its answer is.
-fn judge(row: &[u8; 53], compared: &mut [u64; 11], wrong: &mut [u64; 11]) {
+fn judge(row: &[u8; 53], compared: &mut [u64; 12], wrong: &mut [u64; 12]) {
     let a = number(row, 2);
     let b = second(row);
     let r = number(row, 36);
@@ -157,7 +209,7 @@ fn judge(row: &[u8; 53], compared: &mut [u64; 11], wrong: &mut [u64; 11]) {
 }
 
 // Reads one row and judges it; answers whether to go on.
-fn take_row(compared: &mut [u64; 11], wrong: &mut [u64; 11]) -> bool {
+fn take_row(compared: &mut [u64; 12], wrong: &mut [u64; 12]) -> bool {
     let mut row = [0u8; 53];
     let n = io::read_full(STDIN_FILENO, &mut row);
     if n == 0 {
@@ -173,7 +225,7 @@ fn take_row(compared: &mut [u64; 11], wrong: &mut [u64; 11]) -> bool {
 
 // Judges every row. A proved loop has to end, and nothing says that the input does, so it counts
 // its turns down from a number that no run uses up.
-fn take_all(compared: &mut [u64; 11], wrong: &mut [u64; 11]) {
+fn take_all(compared: &mut [u64; 12], wrong: &mut [u64; 12]) {
     let mut turns = u64::MAX;
     while turns > 0 && take_row(compared, wrong) {
         turns -= 1;
@@ -190,8 +242,8 @@ fn print_line(name: &[u8], compared: u64, wrong: u64) {
 }
 
 fn main() {
-    let mut compared = [0u64; 11];
-    let mut wrong = [0u64; 11];
+    let mut compared = [0u64; 12];
+    let mut wrong = [0u64; 12];
     take_all(&mut compared, &mut wrong);
     print_line(b"toFixed ", compared[0], wrong[0]);
     print_line(b"min ", compared[1], wrong[1]);
@@ -203,7 +255,8 @@ fn main() {
     print_line(b"frame seconds ", compared[7], wrong[7]);
     print_line(b"planted toFixed ", compared[8], wrong[8]);
     print_line(b"planted frame ", compared[9], wrong[9]);
+    print_line(b"pieces ", compared[10], wrong[10]);
     io::write_all(STDOUT_FILENO, b"unreadable ");
-    io::print_decimal(STDOUT_FILENO, compared[10]);
+    io::print_decimal(STDOUT_FILENO, compared[11]);
     io::write_all(STDOUT_FILENO, b"\n");
 }
