@@ -7,8 +7,8 @@
  * are free. A pointer is lent with the number of its elements, and no two lent parts overlap.
  *
  * A call that can refuse answers a refusal: 0 where it accepts, else document 01's number, and then
- * lent memory keeps its bits. Here: 4 too many samples, 6 too few places, 7 a number of levels that
- * isn't samples / 160, rounded down.
+ * lent memory keeps its bits. Here: 1 a time outside its range, 4 too many samples, 6 too few
+ * places, 7 a number of levels that isn't samples / 160, rounded down.
  *
  * Times are in seconds. A frame is 160 samples at 16,000 samples a second: 10 ms.
  */
@@ -88,6 +88,19 @@ struct qiluvrait_cut {
  */
 struct qiluvrait_cut qiluvrait_pieces(const double *levels, size_t levels_len, double floor, size_t count,
                                       size_t *starts, size_t starts_len, size_t *ends, size_t ends_len);
+
+/* What qiluvrait_peak answers: the largest magnitude; 0 where it refuses. */
+struct qiluvrait_level {
+    uint32_t refusal;
+    double level;
+};
+
+/*
+ * The largest magnitude of the samples that a word spans, from floor(start * 16000) to before
+ * ceil(end * 16000) and the last sample. NaN where that begins before sample 0 and isn't empty, or a
+ * sample in it is NaN. Refusals: 4, and 1 for a time that isn't finite and from -7,200 to 7,200.
+ */
+struct qiluvrait_level qiluvrait_peak(const float *samples, size_t samples_len, double start, double end);
 
 #ifdef __cplusplus
 }

@@ -17,7 +17,6 @@ pub struct Cut {
 }
 
 /// The answer of a peak.
-#[cfg(feature = "peak")]
 #[repr(C)]
 pub struct Level {
     pub refusal: u32,
@@ -50,7 +49,6 @@ unsafe extern "C" {
         ends: *mut usize,
         n_ends: usize,
     ) -> Cut;
-    #[cfg(feature = "peak")]
     fn qiluvrait_peak(samples: *const f32, n: usize, start: f64, end: f64) -> Level;
 }
 
@@ -78,7 +76,6 @@ pub fn pieces(
     unsafe { qiluvrait_pieces(levels, n, floor, count, starts, n_starts, ends, n_ends) }
 }
 
-#[cfg(feature = "peak")]
 pub fn peak(samples: &[f32], start: f64, end: f64) -> Level {
     // SAFETY: the samples are as many as is said.
     unsafe { qiluvrait_peak(samples.as_ptr(), samples.len(), start, end) }

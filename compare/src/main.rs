@@ -6,7 +6,6 @@ mod heard;
 mod hour;
 mod inputs;
 mod numbers;
-#[cfg(feature = "peak")]
 mod peak;
 mod pieces;
 mod places;
@@ -39,7 +38,6 @@ fn entries() -> Vec<&'static dyn Compared> {
     let entries = all(numbers::NUMBERS);
     let entries = entries.chain(all(heard::OF_RECORDINGS));
     let entries = entries.chain(all(pieces::OF_ROWS));
-    #[cfg(feature = "peak")]
     let entries = entries.chain(all(&[peak::Peak]));
     entries.collect()
 }

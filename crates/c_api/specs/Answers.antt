@@ -6,6 +6,9 @@ use Rattle.envelope.specs.declared.Answer.{Answer}
 use Rattle.envelope.specs.declared.Answer.the-variants as heard
 use Rattle.pieces.specs.declared.Answer.{Answer as Cut}
 use Rattle.pieces.specs.declared.Answer.the-variants as cut
+use Rattle.tally.specs.declared.Level.{Level}
+use Rattle.tally.specs.declared.Level.the-variants as level
+use Rattle.c_api.specs.declared.QiluvraitLevel.{QiluvraitLevel}
 use Rattle.c_api.specs.declared.QiluvraitHeard.{QiluvraitHeard}
 use Rattle.c_api.specs.declared.QiluvraitCut.{QiluvraitCut}
 
@@ -18,3 +21,8 @@ heardOf (heard.Refused r) = record { refusal = number r; floor = ofBits binary64
 abbrev pub cutOf : Cut → QiluvraitCut
 cutOf (cut.Accepted n) = record { refusal = 0; pieces = n }
 cutOf (cut.Refused r) = record { refusal = number r; pieces = 0 }
+
+-- ---- The largest magnitude under a word, or why there is none.
+abbrev pub levelOf : Level → QiluvraitLevel
+levelOf (level.Accepted v) = record { refusal = 0; level = v }
+levelOf (level.Refused r) = record { refusal = number r; level = ofBits binary64 0 }

@@ -6,7 +6,8 @@ ghost use Rattle.js.specs.Js.{jsMin, jsMax, jsToFixed};
 ghost use Rattle.roots.specs.Sqrt.{sqrt as sqrtOf};
 ghost use Rattle.envelope.specs.Calls.{envelopeCall, ownFloor};
 ghost use Rattle.pieces.specs.Pieces.{piecesCall};
-ghost use Rattle.c_api.specs.Answers.{heardOf, cutOf};
+ghost use Rattle.tally.specs.Peak.{peakCall};
+ghost use Rattle.c_api.specs.Answers.{heardOf, cutOf, levelOf};
 ghost use Rattle.frames.specs.Frames.{frameAt, frameCeil, frameFromZero, frameSeconds};
 
 #[no_mangle]
@@ -133,4 +134,31 @@ pub extern "C" fn qiluvrait_pieces(
     ensures { λ r. ⌜ (r ≡ cutOf (piecesCall (now (levels .entry)) floor count (now (starts .entry)) (now (ends .entry)) .answer)) × ((now (starts .exit) ≡ piecesCall (now (levels .entry)) floor count (now (starts .entry)) (now (ends .entry)) .starts) × (now (ends .exit) ≡ piecesCall (now (levels .entry)) floor count (now (starts .entry)) (now (ends .entry)) .ends)) ⌝ }
 {
     cut(pieces::pieces_at(levels, floor, count, starts, ends))
+}
+
+// What qiluvrait_peak answers: refusal 0 and the level, or the number of the refusal.
+#[repr(C)]
+pub struct QiluvraitLevel {
+    pub refusal: u32,
+    pub level: f64,
+}
+
+// An answer of tally::peak, as numbers.
+fn level(answer: tally::Level) -> QiluvraitLevel
+    ensures { λ r. ⌜ r ≡ levelOf answer ⌝ }
+{
+    match answer {
+        tally::Level::Accepted(level) => QiluvraitLevel { refusal: 0, level },
+        tally::Level::Refused(why) => QiluvraitLevel {
+            refusal: base::number(why),
+            level: 0.0,
+        },
+    }
+}
+
+#[no_mangle]
+pub extern "C" fn qiluvrait_peak(samples: &[f32], start: f64, end: f64) -> QiluvraitLevel
+    ensures { λ r. ⌜ r ≡ levelOf (peakCall (now (samples .entry)) start end) ⌝ }
+{
+    level(tally::peak(samples, start, end))
 }

@@ -1,5 +1,5 @@
 -- What the walks over an `Envelope` share: from a walk to a function's theorem, how the struct is made and taken apart, a call, and a local that is freed.
--- The contract says nothing at exit of a parameter that is copied or lent for reading: a walk gives it up, and owes nothing of it at its end. Assumes nothing.
+-- A contract says nothing at exit of a parameter that is copied or lent for reading, so a walk may use up what it owns. Assumes nothing.
 use mathlib.Core.Path.{_≡_, sym, subst}
 use Prim.Native.Nat.{ℕ, zero}
 use mathlib.Core.List.{List, [], _∷_}
@@ -18,10 +18,10 @@ use ghost.Atoms.{Atoms, sem}
 use contract.Lifetimes.{Lfts, Shares, AllOutlive}
 use contract.Monad.{Fun}
 use contract.Running.{GhostRules, Running, givenOf, tables, tablesOf}
-use types.Kit.{Given, Item, ‵, raw, _⊛_, some, later, given, mean, Goal, prop, runs, lands, allocs, params′, frees, Post, atRet, Seq, Sq, Step, step, ⋆, nth, del, pull, _$_, !, move, drop, use0, use1, split, join, group, learn, pick, fsplit, fjoin, suffices, await, done}
+use types.Kit.{Given, Item, ‵, raw, _⊛_, some, later, given, mean, Goal, prop, runs, lands, allocs, params′, frees, Post, atRet, Seq, Sq, Step, step, ⋆, nth, del, pull, _$_, !, move, drop, use0, use1, split, join, learn, pick, fsplit, fjoin, show, frame, await, updating, now as at-once, done}
 use types.Run.{Opd, Opds, look, stop, from, load}
-use sound.WpLaws.{FmC, fmOf, WpFn-mono}
-use denote.RattleType.{RattleType, Denots, Valss, flat, owns}
+use sound.WpLaws.{FmC, fmOf}
+use denote.RattleType.{RattleType, Denots, flat, owns}
 use denote.Laws.{Is, shows, Tells, Are, Ises, Spells, valss, Tellss}
 use denote.Builtin.{f64, usize}
 use denote.Ref.{NamedLft}
@@ -29,18 +29,18 @@ use denote.Signature.{Slot, typeAt, typesAt}
 use denote.Plain.{uint-vals}
 use denote.Floats.{float-vals}
 use denote.Slice.{ShrSlice, slice-vals}
-use denote.Steps.{peeks}
+use denote.Steps.{said, peeks}
 use denote.Struct.Laws as LL
 use denote.Struct.Rest.{all-own, own-open, own-shut}
-use denote.Triple.Statement.{Triple}
+use denote.Triple.Statement.{Contract, Triple}
 use denote.Triple.Call.{calls-at}
-use denote.Triple.Bound.{Bound, passed}
-use denote.Triple.Entry.{Args, Res, alive}
-use denote.Triple.End.{Kepts, Fins}
-use denote.Triple.Spec.{tripleOf}
+use denote.Triple.Bound.{passed}
+use denote.Triple.Entry.{Args, Res, alive, onEntry}
+use denote.Triple.End.{Kepts, Fins, lastsOf}
+use denote.Triple.Spec.{Back, tripleOf}
 use denote.Triple.Table.{entered}
-use denote.Triple.Walked.{Stays, stay-dropped, Fit, fitsOf, hasOf, Silent, AllGo, goes-dropped, ends-at, walked, walk-meets}
-use denote.Triple.Clauses.{Ended, Clauses, Lasts, atExit, lasts, closing}
+use denote.Triple.Walked.{Silent}
+use denote.Triple.Clauses.{Ended, Clauses, Lasts, atExit, lasts, ensured, closing}
 use Rattle.envelope.specs.declared.view.Envelope.{Envelope}
 use Rattle.envelope.proofs.view.Envelope as T
 use Rattle.envelope.proofs.view.Envelope.Laws as T′
@@ -64,56 +64,53 @@ tells α = LL.tells (T.the-type α) (T′.the-laws α)
 pub typed : {M : Type 1} (𝓤 : URA M) (H : Heap 𝓤) (A : Atoms 𝓤) (W : Given 𝓤 H A) (α : NamedLft) (d : Envelope) (u : Val) → Is (Row α) d (u ∷ []) → Typed α u
 typed 𝓤 H A W α d u is = LL.lawful (T.the-type α) (T′.the-laws α) 𝓤 H A W .typed d (u ∷ []) is .0
 
--- ---- every parameter is given up
-abbrev dropped : {n : ℕ} (ss : List (Slot n)) (ks : Kepts ss) → Stays ss ks
-dropped [] ks = tt
-dropped (s ∷ ss) ks = (stay-dropped s (ks .0), dropped ss (ks .1))
-
+-- ---- where nothing is said of any parameter at exit, it is said for nothing
 module _ {M : Type 1} (𝓤 : URA M) (H : Heap 𝓤) (A : Atoms 𝓤) (W : Given 𝓤 H A) {n : ℕ} where
   abbrev Silents : (ss : List (Slot n)) → Kepts ss → Type 1
   Silents [] ks = Unit {1}
   Silents (s ∷ ss) ks = Silent 𝓤 H A W n s (ks .0) × Silents ss (ks .1)
 
-  all-dropped : (ss : List (Slot n)) (ks : Kepts ss) → Silents ss ks → AllGo 𝓤 H A W n ss ks (dropped ss ks)
-  all-dropped [] ks q = tt
-  all-dropped (s ∷ ss) ks q = (goes-dropped 𝓤 H A W n s (ks .0) (q .0), all-dropped ss (ks .1) (q .1))
+  silent : (κs : Lfts n) (ss : List (Slot n)) (ks : Kepts ss) → Silents ss ks → (a : Denots (typesAt ss κs)) (ws : Fins κs ss ks a) → ent 𝓤 (emp 𝓤) (sem 𝓤 H A (lastsOf κs ss ks a ws))
+  silent κs [] ks q a ws = id⊢ 𝓤 (emp 𝓤)
+  silent κs (s ∷ ss) ks q a ws = subst (λ (P : Fml). ent 𝓤 (emp 𝓤) (sem 𝓤 H A (fsep P (lastsOf κs ss (ks .1) (a .1) (ws .1))))) (sym (q .0 κs (a .0) (ws .0)))
+      (via 𝓤 (sep 𝓤 (emp 𝓤) (emp 𝓤)) (emp∗ 𝓤 (emp 𝓤)) (monoR 𝓤 (emp 𝓤) (silent κs ss (ks .1) (q .1) (a .1) (ws .1))))
 
-  fit : (κs : Lfts n) (ss : List (Slot n)) (ks : Kepts ss) (a : Denots (typesAt ss κs)) (ws : Fins κs ss ks a) → fitsOf κs ss ks (dropped ss ks) a ws
-  fit κs [] ks a ws = tt
-  fit κs (s ∷ ss) ks a ws = (tt, fit κs ss (ks .1) (a .1) (ws .1))
+-- ---- a contract, and what a walk to it has at its end
+abbrev Params : (T : Ended) → Lfts (T .signature .lifetimes) → List RattleType
+Params T = typesAt (T .signature .params)
 
-  had : (κs : Lfts n) (ss : List (Slot n)) (ks : Kepts ss) (a : Denots (typesAt ss κs)) (ws : Fins κs ss ks a) (vss : Valss (typesAt ss κs)) → ent 𝓤 (emp 𝓤) (sem 𝓤 H A (hasOf κs ss ks (dropped ss ks) a ws vss))
-  had κs [] ks a ws vss = id⊢ 𝓤 (emp 𝓤)
-  had κs (s ∷ ss) ks a ws vss = via 𝓤 (sep 𝓤 (emp 𝓤) (emp 𝓤)) (emp∗ 𝓤 (emp 𝓤)) (monoR 𝓤 (emp 𝓤) (had κs ss (ks .1) (a .1) (ws .1) (vss .1)))
+abbrev Result : (T : Ended) → Lfts (T .signature .lifetimes) → RattleType
+Result T = typeAt (T .signature .result)
 
--- ---- a walk: from the tokens and what the parameters own, to any Kf that its end gives
-module _ {M : Type 1} (𝓤 : URA M) (H : Heap 𝓤) (A : Atoms 𝓤) (W : Given 𝓤 H A) (T : Ended) (c : Clauses 𝓤 T) where
-  abbrev Ps : Lfts (T .signature .lifetimes) → List RattleType
-  Ps = typesAt (T .signature .params)
-
-  -- what a contract binds outside
-  abbrev At : Type 0
-  At = (x : Bound 𝓤 H A (T .signature)) × c (x .0) (x .3) .ghost
+module _ {M : Type 1} (𝓤 : URA M) (H : Heap 𝓤) (A : Atoms 𝓤) (T : Ended) (c : Clauses 𝓤 T) where
+  abbrev Contracted : Contract 𝓤
+  Contracted = tripleOf 𝓤 H A (T .signature) (closing 𝓤 H A T c)
 
   -- the result, the tokens, and i
-  abbrev Answered : (y : At) → Val → Res (T .signature) (y .0 .0) → Item 𝓤 → List (Item 𝓤) → List (Item 𝓤)
-  Answered y u r i Γ = ‵ (typeAt (T .signature .result) (y .0 .0) .own r (u ∷ [])) ∷ raw (alive 𝓤 H A (T .signature) (y .0 .0) (y .0 .1)) ∷ i ∷ Γ
+  abbrev Answered : (y : Contracted .Ghost) → Val → Res (T .signature) (y .0 .0) → Item 𝓤 → List (Item 𝓤) → List (Item 𝓤)
+  Answered y u r i Γ = ‵ (Result T (y .0 .0) .own r (u ∷ [])) ∷ raw (alive 𝓤 H A (T .signature) (y .0 .0) (y .0 .1)) ∷ i ∷ Γ
 
-  abbrev Ensured : (y : At) → Res (T .signature) (y .0 .0) → Lasts T (y .0 .0) (y .0 .3) → SProp 𝓤
+  abbrev Ensured : (y : Contracted .Ghost) → Res (T .signature) (y .0 .0) → Lasts T (y .0 .0) (y .0 .3) → SProp 𝓤
   Ensured y r ws = c (y .0 .0) (y .0 .3) .ensures (y .1) r (atExit T (y .0 .0) (y .0 .3) ws)
 
-  -- how a walk ends, where i gives the `ensures`: every parameter is given up, or something is had of them
-  abbrev Ends : At → (Val → SProp 𝓤) → Type 2
-  Ends y Kf = (u : Val) (r : Res (T .signature) (y .0 .0)) (ws : Lasts T (y .0 .0) (y .0 .3)) (i : Item 𝓤) → ent 𝓤 (mean 𝓤 H A i) (Ensured y r ws) → Sq W (Answered y u r i []) (prop (Kf u))
+module _ {M : Type 1} (𝓤 : URA M) (H : Heap 𝓤) (A : Atoms 𝓤) (W : Given 𝓤 H A) (T : Ended) (c : Clauses 𝓤 T) where
+  -- a walk ends with an i that gives the `ensures`, and with what is said of last values, or where nothing is said with no more
+  abbrev EndsWith : Contracted 𝓤 H A T c .Ghost → (Val → SProp 𝓤) → Type 2
+  EndsWith y Kf = (u : Val) (r : Res (T .signature) (y .0 .0)) (ws : Lasts T (y .0 .0) (y .0 .3)) (i : Item 𝓤) → ent 𝓤 (mean 𝓤 H A i) (Ensured 𝓤 H A T c y r ws) → Sq W (Answered 𝓤 H A T c y u r i (‵ (lasts T (y .0 .0) (y .0 .3) ws) ∷ [])) (prop (Kf u))
 
-  abbrev EndsWith : Stays (T .signature .params) (T .kept) → At → (Val → SProp 𝓤) → Type 2
-  EndsWith hs y Kf = (u : Val) (r : Res (T .signature) (y .0 .0)) (ws : Lasts T (y .0 .0) (y .0 .3)) (i : Item 𝓤) → ent 𝓤 (mean 𝓤 H A i) (Ensured y r ws) → Fit T hs (y .0 .0) (y .0 .3) ws
-      → Sq W (Answered y u r i (‵ (hasOf (y .0 .0) (T .signature .params) (T .kept) hs (y .0 .3) ws (y .0 .4)) ∷ [])) (prop (Kf u))
+  abbrev Ends : Contracted 𝓤 H A T c .Ghost → (Val → SProp 𝓤) → Type 2
+  Ends y Kf = (u : Val) (r : Res (T .signature) (y .0 .0)) (ws : Lasts T (y .0 .0) (y .0 .3)) (i : Item 𝓤) → ent 𝓤 (mean 𝓤 H A i) (Ensured 𝓤 H A T c y r ws) → Sq W (Answered 𝓤 H A T c y u r i []) (prop (Kf u))
 
-  abbrev Walk : Calls 𝓤 H → Loops 𝓤 H → Fn → ((κs : Lfts (T .signature .lifetimes)) → Spells (Ps κs)) → (At → (Val → SProp 𝓤) → Type 2) → Type 2
+  ends : (y : Contracted 𝓤 H A T c .Ghost) → EndsWith y (Contracted 𝓤 H A T c .post y)
+  ends y u r ws i e =
+      move ! (2 ∷ []) $ use1 W (raw (Ensured 𝓤 H A T c y r ws)) e $ updating ! $ at-once ! $ show ! (λ (r′ : Res (T .signature) (y .0 .0)). sep 𝓤 (Back 𝓤 H A (T .signature) (y .0) u r′) (ensured 𝓤 H A T c (y .0 .0) (y .0 .3) (y .1) r′)) r $
+      move ! (2 ∷ 1 ∷ []) $ join ! $ frame ! $ show ! (λ (ws′ : Lasts T (y .0 .0) (y .0 .3)). sep 𝓤 (sem 𝓤 H A (lasts T (y .0 .0) (y .0 .3) ws′)) (Ensured 𝓤 H A T c y r ws′)) ws $ move ! (1 ∷ 0 ∷ []) $ done !
+
+  -- a walk: from the tokens and what the parameters own, with their relations in hand, to any Kf that its end gives
+  abbrev Walk : Calls 𝓤 H → Loops 𝓤 H → Fn → ((κs : Lfts (T .signature .lifetimes)) → Spells (Params T κs)) → (Contracted 𝓤 H A T c .Ghost → (Val → SProp 𝓤) → Type 2) → Type 2
   Walk C Λ f sp End = (κs : Lfts (T .signature .lifetimes)) (qs : Shares (T .signature .lifetimes)) (b : AllOutlive (T .signature .lifetimes) (T .signature .outlives) κs) (a : Args (T .signature) κs) (g : c κs a .ghost)
-      → Are (Ps κs) (Ises (Ps κs)) a (valss (Ps κs) (sp κs) a) → (Kf : Val → SProp 𝓤) → End ((κs, qs, b, a, valss (Ps κs) (sp κs) a), g) Kf
-      → Sq W (raw (alive 𝓤 H A (T .signature) κs qs) ∷ ‵ (owns (Ps κs) a (valss (Ps κs) (sp κs) a)) ∷ []) (allocs (f .locals) (λ E. params′ E (flat (Ps κs) (valss (Ps κs) (sp κs) a)) (runs C Λ E (f .body) (atRet E Kf))))
+      → Are (Params T κs) (Ises (Params T κs)) a (valss (Params T κs) (sp κs) a) → (Kf : Val → SProp 𝓤) → End ((κs, qs, b, a, valss (Params T κs) (sp κs) a), g) Kf
+      → Sq W (raw (alive 𝓤 H A (T .signature) κs qs) ∷ ‵ (owns (Params T κs) a (valss (Params T κs) (sp κs) a)) ∷ []) (allocs (f .locals) (λ E. params′ E (flat (Params T κs) (valss (Params T κs) (sp κs) a)) (runs C Λ E (f .body) (atRet E Kf))))
 
 -- ---- from a walk to the function's theorem
 module _ {M : Type 1} (𝓤 : URA M) (H : Heap 𝓤) (𝓜 : Model 𝓤 H) (𝓖 : GhostRules 𝓤 H) (𝓡 : Running 𝓤 H 𝓜) (γ : Routines) (T : Ended) (c : Clauses 𝓤 T) (k : Name) (f : Fn) where
@@ -126,26 +123,20 @@ module _ {M : Type 1} (𝓤 : URA M) (H : Heap 𝓤) (𝓜 : Model 𝓤 H) (𝓖
   abbrev Λ : Loops 𝓤 H
   Λ = tables 𝓤 H 𝓜 𝓡 γ .Λ
 
-  abbrev Rs : Lfts (T .signature .lifetimes) → List RattleType
-  Rs = typesAt (T .signature .params)
+  abbrev Met : Contract 𝓤
+  Met = Contracted 𝓤 H (𝓖 .A) T c
 
-  abbrev Proved : Type 1
-  Proved = Triple 𝓤 (𝓡 .run (γ k)) (tripleOf 𝓤 H (𝓖 .A) (T .signature) (closing 𝓤 H (𝓖 .A) T c))
-
-  module _ (closed : Closed 𝓤 H C Λ k f) (sp : (κs : Lfts (T .signature .lifetimes)) → Spells (Rs κs)) (tl : (κs : Lfts (T .signature .lifetimes)) → Tellss (Rs κs) (Ises (Rs κs)) (sp κs)) where
-    pub proved-with : (hs : Stays (T .signature .params) (T .kept)) → AllGo 𝓤 H (𝓖 .A) W (T .signature .lifetimes) (T .signature .params) (T .kept) hs → (FmC 𝓤 H (W .laws) C → Walk 𝓤 H (𝓖 .A) W T c C Λ f sp (EndsWith 𝓤 H (𝓖 .A) W T c hs)) → Proved
+  module _ (closed : Closed 𝓤 H C Λ k f) (sp : (κs : Lfts (T .signature .lifetimes)) → Spells (Params T κs)) (tl : (κs : Lfts (T .signature .lifetimes)) → Tellss (Params T κs) (Ises (Params T κs)) (sp κs)) where
+    pub proved-with : (FmC 𝓤 H (W .laws) C → Walk 𝓤 H (𝓖 .A) W T c C Λ f sp (EndsWith 𝓤 H (𝓖 .A) W T c)) → Triple 𝓤 (𝓡 .run (γ k)) Met
     unfolding tablesOf WpFn
-    proved-with hs gs walk =
-        entered 𝓤 H (tripleOf 𝓤 H (𝓖 .A) (T .signature) (closing 𝓤 H (𝓖 .A) T c)) C Λ k f closed
-        (walk-meets 𝓤 H (𝓖 .A) T hs W gs c (WpFn 𝓤 H C Λ f) (WpFn-mono 𝓤 H (W .laws) (tablesOf 𝓤 H 𝓜 (tables 𝓤 H 𝓜 𝓡 γ)) f)
-        (walked 𝓤 H (𝓖 .A) T hs c (WpFn 𝓤 H C Λ f) sp tl (λ κs qs b a g are. via 𝓤 _ (fst∗ 𝓤 _ (c κs a .requires g)) (walk (fmOf 𝓤 H (W .laws) (tablesOf 𝓤 H 𝓜 (tables 𝓤 H 𝓜 𝓡 γ))) κs qs b a g are _ (λ u r ws i e fits.
-        suffices ! _ (ends-at 𝓤 H (𝓖 .A) T hs c W ((κs, qs, b, a, valss (Rs κs) (sp κs) a), g) u r ws fits) $ move ! (2 ∷ []) $ use1 W (raw (Ensured 𝓤 H (𝓖 .A) W T c ((κs, qs, b, a, valss (Rs κs) (sp κs) a), g) r ws)) e $ move ! (2 ∷ 3 ∷ 1 ∷ 0 ∷ []) $ group ! 3 $ done !) .prf))))
+    proved-with walk = entered 𝓤 H Met C Λ k f closed (λ y.
+        via 𝓤 (onEntry 𝓤 H (𝓖 .A) (T .signature) (y .0 .0) (y .0 .1) (y .0 .3) (y .0 .4)) (fst∗ 𝓤 _ (c (y .0 .0) (y .0 .3) .requires (y .1)))
+        (said 𝓤 H (𝓖 .A) (T .signature) (y .0 .0) (y .0 .1) (sp (y .0 .0)) (tl (y .0 .0)) (y .0 .3) (λ us. WpFn 𝓤 H C Λ f (flat (Params T (y .0 .0)) us) (Met .post ((y .0 .0, y .0 .1, y .0 .2, y .0 .3, us), y .1))) (y .0 .4) (λ are.
+        walk (fmOf 𝓤 H (W .laws) (tablesOf 𝓤 H 𝓜 (tables 𝓤 H 𝓜 𝓡 γ))) (y .0 .0) (y .0 .1) (y .0 .2) (y .0 .3) (y .1) are _ (ends 𝓤 H (𝓖 .A) W T c ((y .0 .0, y .0 .1, y .0 .2, y .0 .3, valss (Params T (y .0 .0)) (sp (y .0 .0)) (y .0 .3)), y .1)) .prf)))
 
-    pub proved : Silents 𝓤 H (𝓖 .A) W (T .signature .params) (T .kept) → (FmC 𝓤 H (W .laws) C → Walk 𝓤 H (𝓖 .A) W T c C Λ f sp (Ends 𝓤 H (𝓖 .A) W T c)) → Proved
-    proved q walk = proved-with (dropped (T .signature .params) (T .kept)) (all-dropped 𝓤 H (𝓖 .A) W (T .signature .params) (T .kept) q)
-        (λ fm κs qs b a g are Kf end. walk fm κs qs b a g are Kf (λ u r ws i e.
-        use0 W (‵ (hasOf κs (T .signature .params) (T .kept) (dropped (T .signature .params) (T .kept)) a ws (valss (Rs κs) (sp κs) a))) (had 𝓤 H (𝓖 .A) W κs (T .signature .params) (T .kept) a ws (valss (Rs κs) (sp κs) a)) $
-        move ! (1 ∷ 2 ∷ 3 ∷ 0 ∷ []) $ end u r ws i e (fit 𝓤 H (𝓖 .A) W κs (T .signature .params) (T .kept) a ws)))
+    pub proved : Silents 𝓤 H (𝓖 .A) W (T .signature .params) (T .kept) → (FmC 𝓤 H (W .laws) C → Walk 𝓤 H (𝓖 .A) W T c C Λ f sp (Ends 𝓤 H (𝓖 .A) W T c)) → Triple 𝓤 (𝓡 .run (γ k)) Met
+    proved q walk = proved-with (λ fm κs qs b a g are Kf end. walk fm κs qs b a g are Kf (λ u r ws i e.
+        use0 W (‵ (lasts T κs a ws)) (silent 𝓤 H (𝓖 .A) W κs (T .signature .params) (T .kept) q a ws) $ move ! (1 ∷ 2 ∷ 3 ∷ 0 ∷ []) $ end u r ws i e))
 
 module _ {M : Type 1} {𝓤 : URA M} {H : Heap 𝓤} {A : Atoms 𝓤} {K : Type 0} {W : Given 𝓤 H A} {Γ : List (Item 𝓤)} where
   module _ {G : Goal 𝓤 H} where
@@ -171,18 +162,18 @@ module _ {M : Type 1} {𝓤 : URA M} {H : Heap 𝓤} {A : Atoms 𝓤} {K : Type 
 
   -- ---- a callee with no `requires` is called: it has the tokens and what its parameters own; what it answers, and what it says of last values, come back
   pub asks : (run : Routine → Fun 𝓤) (γ : Routines) → K → {E : Env 𝓤 H} {Λ : Loops 𝓤 H} {q : Post 𝓤 H} {f : Name} {xs : List Operand} {p : Place} {rest : Body} → FmC 𝓤 H (W .laws) (λ k. run (γ k))
-      → (T : Ended) (c : Clauses 𝓤 T) {callee : Routine} → γ f ≡ callee → Triple 𝓤 (run callee) (tripleOf 𝓤 H A (T .signature) (closing 𝓤 H A T c))
-      → (y : At 𝓤 H A W T c) → ent 𝓤 (emp 𝓤) (c (y .0 .0) (y .0 .3) .requires (y .1))
-      → Opds K W (raw (tripleOf 𝓤 H A (T .signature) (closing 𝓤 H A T c) .pre y) ∷ Γ) E xs (passed 𝓤 H A (T .signature) (y .0))
-      → ((u : Val) (r : Res (T .signature) (y .0 .0)) (ws : Lasts T (y .0 .0) (y .0 .3)) → Is (typeAt (T .signature .result) (y .0 .0)) r (u ∷ [])
-      → Seq K W (Answered 𝓤 H A W T c y u r (raw (Ensured 𝓤 H A W T c y r ws)) (‵ (lasts T (y .0 .0) (y .0 .3) ws) ∷ Γ)) (lands (λ k. run (γ k)) Λ E p u rest q))
-      → Seq K W (raw (alive 𝓤 H A (T .signature) (y .0 .0) (y .0 .1)) ∷ ‵ (owns (typesAt (T .signature .params) (y .0 .0)) (y .0 .3) (y .0 .4)) ∷ Γ) (runs (λ k. run (γ k)) Λ E (seq (call f xs p) rest) q)
+      → (T : Ended) (c : Clauses 𝓤 T) {callee : Routine} → γ f ≡ callee → Triple 𝓤 (run callee) (Contracted 𝓤 H A T c)
+      → (y : Contracted 𝓤 H A T c .Ghost) → ent 𝓤 (emp 𝓤) (c (y .0 .0) (y .0 .3) .requires (y .1))
+      → Opds K W (raw (Contracted 𝓤 H A T c .pre y) ∷ Γ) E xs (passed 𝓤 H A (T .signature) (y .0))
+      → ((u : Val) (r : Res (T .signature) (y .0 .0)) (ws : Lasts T (y .0 .0) (y .0 .3)) → Is (Result T (y .0 .0)) r (u ∷ [])
+      → Seq K W (Answered 𝓤 H A T c y u r (raw (Ensured 𝓤 H A T c y r ws)) (‵ (lasts T (y .0 .0) (y .0 .3) ws) ∷ Γ)) (lands (λ k. run (γ k)) Λ E p u rest q))
+      → Seq K W (raw (alive 𝓤 H A (T .signature) (y .0 .0) (y .0 .1)) ∷ ‵ (owns (Params T (y .0 .0)) (y .0 .3) (y .0 .4)) ∷ Γ) (runs (λ k. run (γ k)) Λ E (seq (call f xs p) rest) q)
   asks run γ t fm T c known met y req os k =
-      use0 W (raw (c (y .0 .0) (y .0 .3) .requires (y .1))) req $ move t (1 ∷ 2 ∷ 0 ∷ []) $ join t $ join t $ use1 W (raw (tripleOf 𝓤 H A (T .signature) (closing 𝓤 H A T c) .pre y)) (id⊢ 𝓤 _) $
-      calls-at t fm (tripleOf 𝓤 H A (T .signature) (closing 𝓤 H A T c)) (subst (λ (s : Routine). Triple 𝓤 (run s) (tripleOf 𝓤 H A (T .signature) (closing 𝓤 H A T c))) (sym known) met) y os (λ u.
-      use1 W (later (some (λ (r : Res (T .signature) (y .0 .0)). (raw (alive 𝓤 H A (T .signature) (y .0 .0) (y .0 .1)) ⊛ ‵ (typeAt (T .signature .result) (y .0 .0) .own r (u ∷ [])))
-      ⊛ some (λ (ws : Lasts T (y .0 .0) (y .0 .3)). ‵ (lasts T (y .0 .0) (y .0 .3) ws) ⊛ raw (Ensured 𝓤 H A W T c y r ws))))) (id⊢ 𝓤 _) $ await t tt $ pick t (λ r. split t $ split t $ move t (2 ∷ []) $ pick t (λ ws. split t $ move t (3 ∷ 2 ∷ 1 ∷ 0 ∷ []) $
-      peeks t (typeAt (T .signature .result) (y .0 .0)) (Is (typeAt (T .signature .result) (y .0 .0))) (shows 𝓤 H A (typeAt (T .signature .result) (y .0 .0))) r (u ∷ []) (λ is. k u r ws is))))
+      use0 W (raw (c (y .0 .0) (y .0 .3) .requires (y .1))) req $ move t (1 ∷ 2 ∷ 0 ∷ []) $ join t $ join t $ use1 W (raw (Contracted 𝓤 H A T c .pre y)) (id⊢ 𝓤 _) $
+      calls-at t fm (Contracted 𝓤 H A T c) (subst (λ (s : Routine). Triple 𝓤 (run s) (Contracted 𝓤 H A T c)) (sym known) met) y os (λ u.
+      use1 W (later (some (λ (r : Res (T .signature) (y .0 .0)). (raw (alive 𝓤 H A (T .signature) (y .0 .0) (y .0 .1)) ⊛ ‵ (Result T (y .0 .0) .own r (u ∷ [])))
+      ⊛ some (λ (ws : Lasts T (y .0 .0) (y .0 .3)). ‵ (lasts T (y .0 .0) (y .0 .3) ws) ⊛ raw (Ensured 𝓤 H A T c y r ws))))) (id⊢ 𝓤 _) $ await t tt $ pick t (λ r. split t $ split t $ move t (2 ∷ []) $ pick t (λ ws. split t $ move t (3 ∷ 2 ∷ 1 ∷ 0 ∷ []) $
+      peeks t (Result T (y .0 .0)) (Is (Result T (y .0 .0))) (shows 𝓤 H A (Result T (y .0 .0))) r (u ∷ []) (λ is. k u r ws is))))
 
   -- ---- a local is freed: entry n is its cell
   pub freed : K → (n : ℕ) {τ : Ty} {b : ℕ} {v : Val} {E : Env 𝓤 H} {G : Goal 𝓤 H} → nth 𝓤 H A n Γ ≡ ‵ (fat fullShare τ b zero v) → nth 𝓤 H A n (del 𝓤 H A n Γ) ≡ ‵ (fdies τ b)

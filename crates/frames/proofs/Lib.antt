@@ -1,5 +1,5 @@
--- Laws of frames. Other crates cite those of `Indices`.
-mod Signed
+-- Laws of frames. Other crates cite those of `Signed` and `Indices`.
+pub mod Signed
 mod Rounding
 mod Times
 pub mod Indices

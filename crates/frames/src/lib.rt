@@ -71,7 +71,7 @@ fn minus_to_i64(n: u64) -> i64
 }
 
 // Rust's x.floor() as i64.
-fn floor_i64(x: f64) -> i64
+pub fn floor_i64(x: f64) -> i64
     ensures { λ r. ⌜ r ≡ floorI64 x ⌝ }
 {
     if x < 0.0 {
@@ -81,7 +81,7 @@ fn floor_i64(x: f64) -> i64
 }
 
 // Rust's x.ceil() as i64.
-fn ceil_i64(x: f64) -> i64
+pub fn ceil_i64(x: f64) -> i64
     ensures { λ r. ⌜ r ≡ ceilI64 x ⌝ }
 {
     if x < 0.0 {

@@ -13,6 +13,8 @@ ghost use Rattle.pieces.specs.Parts.{Stepped, middle, Ready, startsOver,
 use base::Refusal;
 use base::Rule;
 
+pub mod view;
+
 // The most frames in one piece: 20 s.
 const MAX_FRAMES: usize = 2000;
 // A cut is searched for in this many frames at the end of a piece: 8 s.
