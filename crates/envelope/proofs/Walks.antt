@@ -1,5 +1,5 @@
 -- What the walks over an `Envelope` share: from a walk to a function's theorem, how the struct is made and taken apart, a call, and a local that is freed.
--- A contract says nothing at exit of a parameter that is copied or lent for reading, so a walk may use up what it owns. Assumes nothing.
+-- No function here has a `requires`. A contract says nothing at exit of a parameter that is copied or lent for reading, so a walk may use up what it owns. Assumes nothing.
 use mathlib.Core.Path.{_≡_, sym, subst}
 use Prim.Native.Nat.{ℕ, zero}
 use mathlib.Core.List.{List, [], _∷_}

@@ -1,4 +1,4 @@
-// An envelope: levels, floor and sample count together, and thin functions over it (envelope.rs, Envelope).
+// An envelope: its levels and its floor together, with the sample count (document 01; envelope.rs, Envelope), and thin functions over it.
 ghost use mathlib.Core.Path.{_≡_};
 ghost use mathlib.Core.Bool.{false};
 ghost use lib.ListN.{length, getD};
@@ -30,7 +30,7 @@ pub fn frames<'a>(e: Envelope<'a>) -> usize
     e.levels.len()
 }
 
-// Whether frame k is over the floor; a frame outside is not (envelope.rs, loud).
+// Whether frame k, counted from zero, is over the floor; a frame outside is not (envelope.rs, loud).
 pub fn loud<'a>(e: Envelope<'a>, k: usize) -> bool
     ensures { λ r. ⌜ r ≡ getD (loudRow (e .entry .floor) (now (e .entry .levels))) k false ⌝ }
 {
@@ -44,7 +44,7 @@ pub fn own<'a>(e: Envelope<'a>) -> bool
     super::own_floor(e.levels, e.floor)
 }
 
-// The same as `loud`, for a caller that has the levels, the floor and the count apart.
+// `loud` for a caller that has the levels, the floor and the count apart.
 pub fn loud_in(levels: &[f64], floor: f64, count: usize, k: usize) -> bool
     ensures { λ r. ⌜ r ≡ getD (loudRow floor (now (levels .entry))) k false ⌝ }
 {
