@@ -13,6 +13,8 @@ use std::{env, fs};
 const TAKEN: &[(&str, &str)] = &[
     ("js", "js.rs"),
     ("transcript::envelope", "transcript/envelope.rs"),
+    ("transcript::loops", "transcript/loops.rs"),
+    ("transcript::onsets", "transcript/onsets.rs"),
     ("transcript::pieces", "transcript/pieces.rs"),
 ];
 
@@ -22,7 +24,9 @@ const CUT_OUT: &[(&str, &str)] = &[("peak", "transcript/transcriber.rs")];
 /// Stand-ins, by the module of voxr in whose place they stand.
 const STAND_INS: &[(&str, &str)] = &[
     ("check", "check.rs"),
+    ("error", "error.rs"),
     ("js_math", "js_math.rs"),
+    ("pattern", "pattern.rs"),
     ("transcript::transcriber", "transcriber.rs"),
 ];
 

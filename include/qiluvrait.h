@@ -7,8 +7,9 @@
  * are free. A pointer is lent with the number of its elements, and no two lent parts overlap.
  *
  * A call that can refuse answers a refusal: 0 where it accepts, else document 01's number, and then
- * lent memory keeps its bits. Here: 1 a time outside its range, 4 too many samples, 6 too few
- * places, 7 a number of levels that isn't samples / 160, rounded down.
+ * lent memory keeps its bits. Here: 1 a time outside its range, 2 letters or units outside theirs,
+ * 3 lists of words that differ in length, 4 too many samples or words, 6 too few places, 7 a number of
+ * levels that isn't samples / 160, rounded down. Where several apply, the first of 3, 4, 1, 2, 7, 6.
  *
  * Times are in seconds. A frame is 160 samples at 16,000 samples a second: 10 ms.
  */
@@ -101,6 +102,57 @@ struct qiluvrait_level {
  * sample in it is NaN. Refusals: 4, and 1 for a time that isn't finite and from -7,200 to 7,200.
  */
 struct qiluvrait_level qiluvrait_peak(const float *samples, size_t samples_len, double start, double end);
+
+/*
+ * Words: five lists, in which place i has word i's start and end, its letters (1 to 1,000), its units
+ * (1 to 10,000) and its key. At most 4,096 words. Times are from -7,200 to 7,200, and an end may
+ * precede its start.
+ */
+
+/* What qiluvrait_collapse_loops answers: the number of words left, and 1 where it is smaller than
+ * before, else 0; both 0 where it refuses. */
+struct qiluvrait_left {
+    uint32_t refusal;
+    uint32_t found;
+    size_t count;
+};
+
+/*
+ * Loops of a recognizer: for n = 1 to 4, three or more equal neighbouring runs of n keys become one.
+ * The words left come first in all five lists, and the places past them become zero. Refusals: 3, 4,
+ * 1, 2.
+ */
+struct qiluvrait_left qiluvrait_collapse_loops(double *starts, size_t starts_len, double *ends,
+                                               size_t ends_len, uint32_t *letters, size_t letters_len,
+                                               uint32_t *units, size_t units_len, uint32_t *keys,
+                                               size_t keys_len);
+
+/*
+ * The three stages on sound take the levels and the floor of a recording of count samples, and answer
+ * a refusal: 3, 4, 1, 2 or 7; 0 where they moved the times.
+ */
+
+/* A word that starts on the last sound of the word before it starts with its own sound, and the word
+ * before it ends no sooner than the sound that it gets back. */
+uint32_t qiluvrait_hand_back_tails(double *starts, size_t starts_len, double *ends, size_t ends_len,
+                                   const uint32_t *letters, size_t letters_len, const uint32_t *units,
+                                   size_t units_len, const uint32_t *keys, size_t keys_len,
+                                   const double *levels, size_t levels_len, double floor, size_t count);
+
+/* A word that follows a pause of 0.15 s or more, and the first word, start where their sound rises,
+ * at most 0.6 s sooner and not before the word before ends. */
+uint32_t qiluvrait_snap_onsets(double *starts, size_t starts_len, const double *ends, size_t ends_len,
+                               const uint32_t *letters, size_t letters_len, const uint32_t *units,
+                               size_t units_len, const uint32_t *keys, size_t keys_len,
+                               const double *levels, size_t levels_len, double floor, size_t count);
+
+/* A word whose end is loose ends where its sound stops; two words with no length share an edge. The
+ * duration, in seconds, bounds the last word, and is among the times for refusal 1. */
+uint32_t qiluvrait_snap_ends(double *starts, size_t starts_len, double *ends, size_t ends_len,
+                             const uint32_t *letters, size_t letters_len, const uint32_t *units,
+                             size_t units_len, const uint32_t *keys, size_t keys_len,
+                             const double *levels, size_t levels_len, double floor, size_t count,
+                             double duration);
 
 #ifdef __cplusplus
 }

@@ -1,6 +1,8 @@
 //! The library's functions, as include/qiluvrait.h declares them.
 
 use crate::places::Places;
+use crate::sounds::Sound;
+use crate::words::Lent;
 
 /// The answer of an envelope.
 #[repr(C)]
@@ -21,6 +23,15 @@ pub struct Cut {
 pub struct Level {
     pub refusal: u32,
     pub level: f64,
+}
+
+/// The answer of the loops: whether any was found, and how many words are left.
+#[repr(C)]
+#[derive(Debug, PartialEq)]
+pub struct Left {
+    pub refusal: u32,
+    pub found: u32,
+    pub count: usize,
 }
 
 unsafe extern "C" {
@@ -50,6 +61,67 @@ unsafe extern "C" {
         n_ends: usize,
     ) -> Cut;
     fn qiluvrait_peak(samples: *const f32, n: usize, start: f64, end: f64) -> Level;
+    fn qiluvrait_collapse_loops(
+        starts: *mut f64,
+        n_starts: usize,
+        ends: *mut f64,
+        n_ends: usize,
+        letters: *mut u32,
+        n_letters: usize,
+        units: *mut u32,
+        n_units: usize,
+        keys: *mut u32,
+        n_keys: usize,
+    ) -> Left;
+    fn qiluvrait_hand_back_tails(
+        starts: *mut f64,
+        n_starts: usize,
+        ends: *mut f64,
+        n_ends: usize,
+        letters: *const u32,
+        n_letters: usize,
+        units: *const u32,
+        n_units: usize,
+        keys: *const u32,
+        n_keys: usize,
+        levels: *const f64,
+        n_levels: usize,
+        floor: f64,
+        count: usize,
+    ) -> u32;
+    fn qiluvrait_snap_onsets(
+        starts: *mut f64,
+        n_starts: usize,
+        ends: *const f64,
+        n_ends: usize,
+        letters: *const u32,
+        n_letters: usize,
+        units: *const u32,
+        n_units: usize,
+        keys: *const u32,
+        n_keys: usize,
+        levels: *const f64,
+        n_levels: usize,
+        floor: f64,
+        count: usize,
+    ) -> u32;
+    fn qiluvrait_snap_ends(
+        starts: *mut f64,
+        n_starts: usize,
+        ends: *mut f64,
+        n_ends: usize,
+        letters: *const u32,
+        n_letters: usize,
+        units: *const u32,
+        n_units: usize,
+        keys: *const u32,
+        n_keys: usize,
+        levels: *const f64,
+        n_levels: usize,
+        floor: f64,
+        count: usize,
+        duration: f64,
+    ) -> u32;
 }
 
 pub fn envelope(samples: &[f32], levels: &mut Places) -> Heard {
@@ -79,4 +151,75 @@ pub fn pieces(
 pub fn peak(samples: &[f32], start: f64, end: f64) -> Level {
     // SAFETY: the samples are as many as is said.
     unsafe { qiluvrait_peak(samples.as_ptr(), samples.len(), start, end) }
+}
+
+/// Calls a function of words: the five lists of `Lent`, each with its length, then what follows.
+macro_rules! of_words {
+    ($function:ident, $words:expr $(, $more:expr)*) => {{
+        let Lent { starts, ends, letters, units, keys } = $words;
+        // SAFETY: each list is as long as is said, and no one else holds the places.
+        unsafe {
+            $function(
+                starts.doubles(),
+                starts.lent(),
+                ends.doubles(),
+                ends.lent(),
+                letters.numbers(),
+                letters.lent(),
+                units.numbers(),
+                units.lent(),
+                keys.numbers(),
+                keys.lent(),
+                $($more),*
+            )
+        }
+    }};
+}
+
+/// The sound that a call of words is told of: its levels, its floor and its number of samples.
+#[derive(Clone, Copy)]
+pub struct Over<'a> {
+    pub levels: &'a [f64],
+    pub floor: f64,
+    pub count: usize,
+}
+
+impl<'a> From<&'a Sound> for Over<'a> {
+    fn from(sound: &'a Sound) -> Over<'a> {
+        Over {
+            levels: &sound.levels.env,
+            floor: sound.levels.floor,
+            count: sound.count,
+        }
+    }
+}
+
+pub fn collapse_loops(words: &mut Lent) -> Left {
+    of_words!(qiluvrait_collapse_loops, words)
+}
+
+pub fn hand_back_tails(words: &mut Lent, over: Over) -> u32 {
+    let (levels, n) = (over.levels.as_ptr(), over.levels.len());
+    let (floor, count) = (over.floor, over.count);
+    of_words!(qiluvrait_hand_back_tails, words, levels, n, floor, count)
+}
+
+pub fn snap_onsets(words: &mut Lent, over: Over) -> u32 {
+    let (levels, n) = (over.levels.as_ptr(), over.levels.len());
+    let (floor, count) = (over.floor, over.count);
+    of_words!(qiluvrait_snap_onsets, words, levels, n, floor, count)
+}
+
+pub fn snap_ends(words: &mut Lent, over: Over, duration: f64) -> u32 {
+    let (levels, n) = (over.levels.as_ptr(), over.levels.len());
+    let (floor, count) = (over.floor, over.count);
+    of_words!(
+        qiluvrait_snap_ends,
+        words,
+        levels,
+        n,
+        floor,
+        count,
+        duration
+    )
 }

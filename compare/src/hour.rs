@@ -40,7 +40,7 @@ fn speech(seed: u64) -> Vec<f32> {
 }
 
 /// Milliseconds of a call.
-fn time(call: &mut dyn FnMut()) -> f64 {
+pub fn time(call: &mut dyn FnMut()) -> f64 {
     let start = Instant::now();
     call();
     start.elapsed().as_secs_f64() * 1000.0
@@ -61,7 +61,8 @@ fn row(name: &str, runs: usize, ours: &mut dyn FnMut(), rust: &mut dyn FnMut()) 
 }
 
 /// Prints the table: medians over `runs` runs, in milliseconds a call, and ours over the Rust's.
-pub fn bench(seed: u64, runs: usize) {
+/// Gives the levels.
+pub fn bench(seed: u64, runs: usize) -> Envelope {
     let samples = speech(seed);
     let frames = samples.len() / HOP;
     let heard = envelope(&samples);
@@ -100,4 +101,5 @@ pub fn bench(seed: u64, runs: usize) {
             black_box(pieces(levels(), samples.len()));
         },
     );
+    heard
 }

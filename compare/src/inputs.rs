@@ -41,6 +41,11 @@ impl Random {
         list[self.below(list.len() as u64) as usize]
     }
 
+    /// One of two, to write in.
+    pub fn of_two<'a, T>(&mut self, one: &'a mut T, other: &'a mut T) -> &'a mut T {
+        if self.below(2) == 0 { one } else { other }
+    }
+
     /// A double, as its bits, from any of the families.
     pub fn float(&mut self) -> u64 {
         let x = match self.below(14) {

@@ -1,10 +1,12 @@
 //! Compares this library with the Rust of voxr, bit for bit, and times both. See README.md.
 
 mod bench;
+mod faults;
 mod ffi;
 mod heard;
 mod hour;
 mod inputs;
+mod loops;
 mod numbers;
 mod peak;
 mod pieces;
@@ -12,6 +14,13 @@ mod places;
 mod recordings;
 mod report;
 mod rows;
+mod sounds;
+mod spoken;
+mod stages;
+mod times;
+mod words;
+mod words_hour;
+mod words_refused;
 
 // The files of voxr and the stand-ins, as modules of this package (build.rs).
 include!(concat!(env!("OUT_DIR"), "/voxr.rs"));
@@ -39,12 +48,16 @@ fn entries() -> Vec<&'static dyn Compared> {
     let entries = entries.chain(all(heard::OF_RECORDINGS));
     let entries = entries.chain(all(pieces::OF_ROWS));
     let entries = entries.chain(all(&[peak::Peak]));
+    let entries = entries.chain(all(&[loops::Loops]));
+    let entries = entries.chain(all(stages::STAGES));
+    let entries = entries.chain(all(&[words_refused::Refused]));
     entries.collect()
 }
 
 fn bench(runs: Option<usize>) -> ExitCode {
     bench::bench(SEED, runs.unwrap_or(RUNS));
-    hour::bench(SEED, runs.unwrap_or(HOUR_RUNS));
+    let heard = hour::bench(SEED, runs.unwrap_or(HOUR_RUNS));
+    words_hour::bench(SEED, runs.unwrap_or(HOUR_RUNS), &heard);
     ExitCode::SUCCESS
 }
 

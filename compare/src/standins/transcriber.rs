@@ -9,5 +9,6 @@ include!(concat!(env!("OUT_DIR"), "/peak.rs"));
 
 /// `peak` of a word with these times.
 pub(crate) fn peak_between(pcm: &[f32], start: f64, end: f64) -> f64 {
-    peak(pcm, &HeardWord { start, end })
+    let text = Default::default();
+    peak(pcm, &HeardWord { text, start, end })
 }

@@ -8,3 +8,4 @@ pub mod Units
 pub mod Signs
 pub mod Near
 pub mod Values
+pub mod Most

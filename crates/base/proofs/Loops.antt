@@ -9,7 +9,7 @@ use lib.Seq.{drop-cons, set-at, append-snoc}
 use native.Mathlib.Omega.{arith}
 use native.Mathlib.Nat.{sub-zero}
 use native.Mathlib.Numerals.{add-one}
-use lib.IntN.{ℤ, pos, negsuc, predℤ, _-ℤ_, subℕ, -ℤ-one, -ℤ-+ℤ-cancel}
+use lib.IntN.{ℤ, pos, negsuc, sucℤ, predℤ, _-ℤ_, subℕ, -ℤ-one, -ℤ-+ℤ-cancel}
 use lib.Dec.{ltb}
 use lib.Signed.{ltZ}
 use borrow.Author.Tests.{le-ltb, ltb-true, ltb-false}
@@ -100,6 +100,13 @@ module _ {S : Type 0} where
   unfolding each
   each-keeps o f keeps zero i s = refl
   each-keeps o f keeps (suc n) i s = each-keeps o f keeps n (suc i) (f i s) ∙ keeps i s
+
+  -- what is seen of a loop is a loop on what is seen
+  pub each-seen : {T : Type 0} (o : S → T) (f : ℕ → S → S) (g : ℕ → T → T) → ((i : ℕ) (s : S) → o (f i s) ≡ g i (o s))
+      → (n i : ℕ) (s : S) → o (each f n i s) ≡ each g n i (o s)
+  unfolding each
+  each-seen o f g same zero i s = refl
+  each-seen o f g same (suc n) i s = each-seen o f g same n (suc i) (f i s) ∙ ap (each g n (suc i)) (same i s)
 
   module _ (f : ℤ → S → Turn S) where
     pub run-out : (n : ℕ) (k : ℤ) (s : S) → run f n k (out s) ≡ s
@@ -243,3 +250,24 @@ each-alike R f g a e step zero i s t h r = let z : i ≡ e = omega arith in rw z
 each-alike R f g a e step (suc n) i s t h r =
     let z : suc (a + i) ≡ a + suc i = omega arith in
     rw z (each-alike R f g a e step n (suc i) (f (a + i) s) (g i t) (omega arith) (step i s t (omega arith) r))
+
+-- ---- what holds of a turn's state
+abbrev pub Holds : {S : Type 0} → (S → Type 0) → Turn S → Type 0
+Holds P (on s) = P s
+Holds P (out s) = P s
+
+-- ---- what every turn keeps true a search keeps true to its end, where Q is known of every frame that it comes to
+module _ {S : Type 0} (f : ℤ → S → Turn S) (P : S → Type 0) (Q : ℤ → Type 0) (step : (k : ℤ) (s : S) → Q k → P s → Holds P (f k s)) where
+  pub run-holds : ((k : ℤ) → Q k → Q (sucℤ k)) → (n : ℕ) (k : ℤ) (t : Turn S) → Q k → Holds P t → P (run f n k t)
+  unfolding run
+  run-holds up zero k (on s) q p = p
+  run-holds up zero k (out s) q p = p
+  run-holds up (suc n) k (out s) q p = p
+  run-holds up (suc n) k (on s) q p = run-holds up n (sucℤ k) (f k s) (up k q) (step k s q p)
+
+  pub back-holds : ((k : ℤ) → Q k → Q (predℤ k)) → (n : ℕ) (k : ℤ) (t : Turn S) → Q k → Holds P t → P (runBack f n k t)
+  unfolding runBack
+  back-holds down zero k (on s) q p = p
+  back-holds down zero k (out s) q p = p
+  back-holds down (suc n) k (out s) q p = p
+  back-holds down (suc n) k (on s) q p = back-holds down n (predℤ k) (f k s) (down k q) (step k s q p)

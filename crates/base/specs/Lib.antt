@@ -2,4 +2,5 @@
 pub mod Whole
 pub mod Loop
 pub mod Words
+pub mod Floats
 pub mod Refusals

@@ -1,7 +1,9 @@
--- Lists of words and spans, as document 01 describes them. Assumes nothing.
+-- Lists of words and spans, as document 01 describes them, and a word's two times. Assumes nothing.
 use Prim.Native.Nat.{ℕ}
 use mathlib.Core.List.{List}
-use lib.Ieee.{Float}
+use lib.ListN.{getD, set}
+use lib.Ieee.{Float, nan}
+use Rattle.base.specs.declared.Times.{Times}
 
 -- ---- "A word has a start and end in seconds (f64) and three whole numbers": letters, units and key.
 pub record Words : Type 0 where
@@ -22,3 +24,27 @@ pub record Spans : Type 0 where
 
 abbrev pub spans : List Float → List Float → List ℕ → Spans
 spans s e n = record { starts = s; ends = e; counts = n }
+
+-- ---- The words' edges: where each starts and ends. The stages on sound move these, and nothing else of a word.
+pub record Edges : Type 0 where
+  pub starts : List Float
+  pub ends : List Float
+
+abbrev pub edges : List Float → List Float → Edges
+edges s e = record { starts = s; ends = e }
+
+-- ---- "a word's two times travel together"
+abbrev pub times : Float → Float → Times
+times s e = record { start = s; end = e }
+
+-- ---- words[i]
+abbrev pub timesAt : Edges → ℕ → Times
+timesAt es i = times (getD (es .starts) i nan) (getD (es .ends) i nan)
+
+-- ---- words[i] = w
+abbrev pub setTimes : Edges → ℕ → Times → Edges
+setTimes es i w = edges (set (es .starts) i (w .start)) (set (es .ends) i (w .end))
+
+-- ---- The words with other edges: letters, units and keys stay.
+abbrev pub withEdges : Edges → Words → Words
+withEdges es ws = words (es .starts) (es .ends) (ws .letters) (ws .units) (ws .keys)

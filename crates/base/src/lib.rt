@@ -1,5 +1,6 @@
 // What every part shares: the refusals of document 01 with their numbers, and a word's times.
 ghost use mathlib.Core.Path.{_≡_};
+ghost use Prim.Native.Nat.{min};
 ghost use Rattle.base.specs.Refusals.{number as numberOf};
 
 // Why a call refuses.
@@ -34,6 +35,18 @@ pub struct Times {
     pub end: f64,
 }
 
+// Where the next word starts, in seconds, or that there is none (Rust's `Option<f64>`).
+pub enum NextStart {
+    Starts(f64),
+    NoNext,
+}
+
+// Where a word's sound ends, in seconds, or that there is none (Rust's `Option<f64>`).
+pub enum SoundEnd {
+    Ends(f64),
+    NoSound,
+}
+
 // Document 01's number of a refusal.
 pub fn number(r: Refusal) -> u32
     ensures { λ n. ⌜ n ≡ numberOf r ⌝ }
@@ -48,4 +61,14 @@ pub fn number(r: Refusal) -> u32
         Refusal::Levels => 7,
         Refusal::Cut => 8,
     }
+}
+
+// The lower of two numbers.
+pub fn least(a: usize, b: usize) -> usize
+    ensures { λ r. ⌜ r ≡ min a b ⌝ }
+{
+    if b < a {
+        return b;
+    }
+    a
 }

@@ -1,7 +1,15 @@
 -- An answer as numbers: refusal 0 and the value where the call accepts, document 01's number of the refusal and 0 where it refuses. Assumes nothing.
 use Prim.Native.Nat.{ℕ}
-use lib.Ieee.{Float, binary64, ofBits}
+use mathlib.Core.Bool.{cond}
+use lib.Ieee.{binary64, ofBits}
 use Rattle.base.specs.Refusals.{number}
+use Rattle.base.specs.Words.{Words}
+use Rattle.loops.specs.Calls as loops
+use Rattle.loops.specs.declared.Answer.{Answer as Collapsed}
+use Rattle.loops.specs.declared.Answer.the-variants as collapsed
+use Rattle.checks.specs.Calls as calls
+use Rattle.checks.specs.declared.Answer.{Answer as Moved}
+use Rattle.checks.specs.declared.Answer.the-variants as moved
 use Rattle.envelope.specs.declared.Answer.{Answer}
 use Rattle.envelope.specs.declared.Answer.the-variants as heard
 use Rattle.pieces.specs.declared.Answer.{Answer as Cut}
@@ -11,6 +19,7 @@ use Rattle.tally.specs.declared.Level.the-variants as level
 use Rattle.c_api.specs.declared.QiluvraitLevel.{QiluvraitLevel}
 use Rattle.c_api.specs.declared.QiluvraitHeard.{QiluvraitHeard}
 use Rattle.c_api.specs.declared.QiluvraitCut.{QiluvraitCut}
+use Rattle.c_api.specs.declared.QiluvraitLeft.{QiluvraitLeft}
 
 -- ---- The floor, or why there is none.
 abbrev pub heardOf : Answer → QiluvraitHeard
@@ -26,3 +35,33 @@ cutOf (cut.Refused r) = record { refusal = number r; pieces = 0 }
 abbrev pub levelOf : Level → QiluvraitLevel
 levelOf (level.Accepted v) = record { refusal = 0; level = v }
 levelOf (level.Refused r) = record { refusal = number r; level = ofBits binary64 0 }
+
+-- ---- 0 where the times of words were moved, or why they were not; and the words afterwards.
+abbrev pub movedOf : Moved → ℕ
+movedOf moved.Accepted = 0
+movedOf (moved.Refused r) = number r
+
+pub record Reply : Type 0 where
+  pub refusal : ℕ
+  pub words : Words
+
+abbrev pub reply : ℕ → Words → Reply
+reply n ws = record { refusal = n; words = ws }
+
+unfoldable pub replyOf : calls.Output → Reply
+replyOf o = reply (movedOf (o .answer)) (o .words)
+
+-- ---- The words left and 1 where a loop was found, or why there is no answer; and the words afterwards.
+abbrev pub leftOf : Collapsed → QiluvraitLeft
+leftOf (collapsed.Accepted n found) = record { refusal = 0; found = cond found 1 0; count = n }
+leftOf (collapsed.Refused r) = record { refusal = number r; found = 0; count = 0 }
+
+pub record Leaves : Type 0 where
+  pub left : QiluvraitLeft
+  pub words : Words
+
+abbrev pub leaves : QiluvraitLeft → Words → Leaves
+leaves l ws = record { left = l; words = ws }
+
+unfoldable pub leavesOf : loops.Output → Leaves
+leavesOf o = leaves (leftOf (o .answer)) (o .words)

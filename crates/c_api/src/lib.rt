@@ -1,13 +1,19 @@
 // The calls of this library for C, C++ and Rust, as include/qiluvrait.h declares them. Each hands
 // its arguments on to the function it names, and has that function's contract.
 ghost use mathlib.Core.Path.{_≡_};
+ghost use mathlib.Core.Bool.{cond};
 ghost use lib.Ieee.{binary64};
 ghost use Rattle.js.specs.Js.{jsMin, jsMax, jsToFixed};
 ghost use Rattle.roots.specs.Sqrt.{sqrt as sqrtOf};
 ghost use Rattle.envelope.specs.Calls.{envelopeCall, ownFloor};
 ghost use Rattle.pieces.specs.Pieces.{piecesCall};
+ghost use Rattle.base.specs.Words.{words};
+ghost use Rattle.loops.specs.Calls.{collapseCall};
+ghost use Rattle.tails.specs.Tails.{tailsCall};
+ghost use Rattle.onsets.specs.Onsets.{onsetsCall};
+ghost use Rattle.ends.specs.Ends.{endsCall};
 ghost use Rattle.tally.specs.Peak.{peakCall};
-ghost use Rattle.c_api.specs.Answers.{heardOf, cutOf, levelOf};
+ghost use Rattle.c_api.specs.Answers.{heardOf, cutOf, levelOf, leftOf, leaves, leavesOf, movedOf, reply, replyOf};
 ghost use Rattle.frames.specs.Frames.{frameAt, frameCeil, frameFromZero, frameSeconds};
 
 #[no_mangle]
@@ -161,4 +167,126 @@ pub extern "C" fn qiluvrait_peak(samples: &[f32], start: f64, end: f64) -> Qiluv
     ensures { λ r. ⌜ r ≡ levelOf (peakCall (now (samples .entry)) start end) ⌝ }
 {
     level(tally::peak(samples, start, end))
+}
+
+// What qiluvrait_collapse_loops answers: refusal 0, the words left and 1 where a loop was found, or the number of the refusal.
+#[repr(C)]
+pub struct QiluvraitLeft {
+    pub refusal: u32,
+    pub found: u32,
+    pub count: usize,
+}
+
+// 1 for yes, 0 for no.
+fn one_if(yes: bool) -> u32
+    ensures { λ r. ⌜ r ≡ cond yes 1 0 ⌝ }
+{
+    if yes {
+        return 1;
+    }
+    0
+}
+
+// An answer of loops::collapse_loops, as numbers.
+fn left(answer: loops::Answer) -> QiluvraitLeft
+    ensures { λ r. ⌜ r ≡ leftOf answer ⌝ }
+{
+    match answer {
+        loops::Answer::Accepted(count, found) => QiluvraitLeft {
+            refusal: 0,
+            found: one_if(found),
+            count,
+        },
+        loops::Answer::Refused(why) => QiluvraitLeft {
+            refusal: base::number(why),
+            found: 0,
+            count: 0,
+        },
+    }
+}
+
+#[no_mangle]
+pub extern "C" fn qiluvrait_collapse_loops(
+    starts: &mut [f64],
+    ends: &mut [f64],
+    letters: &mut [u32],
+    units: &mut [u32],
+    keys: &mut [u32],
+) -> QiluvraitLeft
+    ensures { λ r. ⌜ leaves r (words (now (starts .exit)) (now (ends .exit)) (now (letters .exit)) (now (units .exit)) (now (keys .exit))) ≡ leavesOf (collapseCall (words (now (starts .entry)) (now (ends .entry)) (now (letters .entry)) (now (units .entry)) (now (keys .entry)))) ⌝ }
+{
+    let answer = loops::collapse_loops(starts, ends, letters, units, keys);
+    left(answer)
+}
+
+// An answer of a stage that moves the times of words, as a number: 0, or the refusal's.
+fn moved(answer: checks::Answer) -> u32
+    ensures { λ r. ⌜ r ≡ movedOf answer ⌝ }
+{
+    match answer {
+        checks::Answer::Accepted => 0,
+        checks::Answer::Refused(why) => base::number(why),
+    }
+}
+
+#[no_mangle]
+pub extern "C" fn qiluvrait_hand_back_tails(
+    starts: &mut [f64],
+    ends: &mut [f64],
+    letters: &[u32],
+    units: &[u32],
+    keys: &[u32],
+    levels: &[f64],
+    floor: f64,
+    count: usize,
+) -> u32
+    ensures { λ r. ⌜ reply r (words (now (starts .exit)) (now (ends .exit)) (now (letters .entry)) (now (units .entry)) (now (keys .entry))) ≡ replyOf (tailsCall (words (now (starts .entry)) (now (ends .entry)) (now (letters .entry)) (now (units .entry)) (now (keys .entry))) (now (levels .entry)) floor count) ⌝ }
+{
+    let answer = tails::hand_back_tails(starts, ends, letters, units, keys, levels, floor, count);
+    moved(answer)
+}
+
+#[no_mangle]
+pub extern "C" fn qiluvrait_snap_onsets(
+    starts: &mut [f64],
+    ends: &[f64],
+    letters: &[u32],
+    units: &[u32],
+    keys: &[u32],
+    levels: &[f64],
+    floor: f64,
+    count: usize,
+) -> u32
+    ensures { λ r. ⌜ reply r (words (now (starts .exit)) (now (ends .entry)) (now (letters .entry)) (now (units .entry)) (now (keys .entry))) ≡ replyOf (onsetsCall (words (now (starts .entry)) (now (ends .entry)) (now (letters .entry)) (now (units .entry)) (now (keys .entry))) (now (levels .entry)) floor count) ⌝ }
+{
+    let answer = onsets::snap_onsets(starts, ends, letters, units, keys, levels, floor, count);
+    moved(answer)
+}
+
+#[no_mangle]
+pub extern "C" fn qiluvrait_snap_ends(
+    starts: &mut [f64],
+    ends: &mut [f64],
+    letters: &[u32],
+    units: &[u32],
+    keys: &[u32],
+    levels: &[f64],
+    floor: f64,
+    count: usize,
+    duration: f64,
+) -> u32
+    ensures { λ r. ⌜ reply r (words (now (starts .exit)) (now (ends .exit)) (now (letters .entry)) (now (units .entry)) (now (keys .entry))) ≡ replyOf (endsCall (words (now (starts .entry)) (now (ends .entry)) (now (letters .entry)) (now (units .entry)) (now (keys .entry))) (now (levels .entry)) floor count duration) ⌝ }
+{
+    let answer = ends::snap_ends(
+        starts,
+        ends,
+        letters,
+        units,
+        keys,
+        levels,
+        floor,
+        count,
+        duration,
+    );
+    moved(answer)
 }

@@ -1,16 +1,21 @@
 -- Every case of the table, by computing the definitions. Assumes nothing.
 use Prim.Native.Nat.{ℕ, _*_}
 use mathlib.Core.Path.{_≡_, refl, ap}
-use mathlib.Core.Bool.{true, false}
+use mathlib.Core.List.{[], _∷_}
+use mathlib.Core.Bool.{false}
 use lib.Count.{trailingZeros}
 use lib.ListN.{replicate}
-use lib.Ieee.{add, sum, mul, div, le, lt, eq, round, size, span, climb, units, odd, ofFields, ofBits}
-use Rattle.base.specs.Loop.{each, fold}
-use Rattle.js.specs.Js.{jsToFixed, nearestUp}
+use lib.Ieee.{isNan, ofInt, add, sub, neg, sum, mul, div, le, lt, eq, round, size, span, climb, units, odd, ofFields, ofBits}
+use Rattle.base.specs.Loop.{each, fold, run}
+use Rattle.base.specs.Words.{edges}
+use Rattle.js.specs.Js.{under, jsMax, jsMin, jsToFixed, nearestUp}
+use Rattle.frames.specs.Frames.{floorI64, frameAt, frameSeconds}
 use Rattle.roots.specs.Sqrt.{sqrt, roundRoot, nearRoot, isqrt, rootDigits}
 use Rattle.envelope.specs.Levels.{hop, squares, level, quietRow}
 use Rattle.pieces.specs.Pieces.{cut, searched, searchTurn}
-use Rattle.cases.specs.Table.{Table, double, quietFrames}
+use Rattle.loops.specs.Loops.{equal, same, copiesEnd, isLoop, loopTurn, pass, collapseLoops}
+use Rattle.ends.specs.Ends.{nextStart, isPair, pairStart, pairEdge, pairOf, lastLoud, soundEnd, reach, orDuration, trimmed, endOf, endTurn, snapEnds}
+use Rattle.cases.specs.Table.{Table, double, quietFrames, keysLeft}
 
 level-of-half : level (replicate 160 (double false 1 2)) ≡ double false 1 2
 unfolding level squares fold sqrt roundRoot nearRoot isqrt rootDigits add sum mul div round size span climb units odd ofFields ofBits trailingZeros
@@ -32,6 +37,23 @@ last-quiet : cut (quietFrames 1992 8) 0 ≡ 1995
 unfolding cut searched searchTurn each
 last-quiet = refl
 
+three-copies : keysLeft (1 ∷ 1 ∷ 1 ∷ 2 ∷ []) ≡ 1 ∷ 2 ∷ []
+unfolding collapseLoops pass loopTurn isLoop copiesEnd same equal each run
+three-copies = refl
+
+two-copies : keysLeft (1 ∷ 1 ∷ []) ≡ 1 ∷ 1 ∷ []
+unfolding collapseLoops pass loopTurn isLoop copiesEnd same equal each run
+two-copies = refl
+
+runs-of-two : keysLeft (1 ∷ 2 ∷ 1 ∷ 2 ∷ 1 ∷ 2 ∷ 1 ∷ []) ≡ 1 ∷ 2 ∷ 1 ∷ []
+unfolding collapseLoops pass loopTurn isLoop copiesEnd same equal each run
+runs-of-two = refl
+
+edge-shared : snapEnds (replicate 30 false) (double false 30 100) (3 ∷ 3 ∷ []) (edges (double false 10 100 ∷ double false 13 100 ∷ []) (double false 12 100 ∷ double false 20 100 ∷ []))
+    ≡ edges (double false 10 100 ∷ double false 16 100 ∷ []) (double false 16 100 ∷ double false 20 100 ∷ [])
+unfolding snapEnds endTurn nextStart isPair pairOf pairStart pairEdge endOf reach orDuration trimmed soundEnd lastLoud each run frameAt floorI64 frameSeconds jsMin jsMax jsToFixed nearestUp under isNan add sub neg sum mul div lt le eq ofInt round size span climb units odd ofBits ofFields trailingZeros
+edge-shared = refl
+
 pub table : Table
 unfolding jsToFixed nearestUp quietRow le lt eq round size span climb units odd
 table = record {
@@ -46,4 +68,8 @@ table = record {
   none-quiet = none-quiet;
   first-quiet = first-quiet;
   last-quiet = last-quiet;
+  three-copies = three-copies;
+  two-copies = two-copies;
+  runs-of-two = runs-of-two;
+  edge-shared = edge-shared;
 }

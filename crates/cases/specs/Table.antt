@@ -6,9 +6,12 @@ use lib.IntN.{pos}
 use lib.Ieee.{Float, fin, binary64, round}
 use mathlib.Core.List.{List, [], _∷_, _++_}
 use lib.ListN.{replicate}
+use Rattle.base.specs.Words.{words, edges}
 use Rattle.js.specs.Js.{jsToFixed}
 use Rattle.envelope.specs.Levels.{hop, level, quietRow}
 use Rattle.pieces.specs.Pieces.{cut}
+use Rattle.loops.specs.Loops.{collapseLoops}
+use Rattle.ends.specs.Ends.{snapEnds}
 
 -- ---- The double that a decimal number stands for: the nearest to n / d, with a sign.
 abbrev pub double : Bool → ℕ → ℕ → Float
@@ -20,6 +23,10 @@ zero negative = fin negative 0 (pos 0)
 -- ---- 2,001 frames, of which n from frame a on are quiet.
 abbrev pub quietFrames : ℕ → ℕ → List Bool
 quietFrames a n = replicate a false ++ (replicate n true ++ replicate (2001 - (a + n)) false)
+
+-- ---- The keys that are left of a list of words, of which only the keys count.
+abbrev pub keysLeft : List ℕ → List ℕ
+keysLeft keys = collapseLoops (words [] [] [] [] keys) .words .keys
 
 pub record Table : Type 0 where
   -- Numbers: "● 0.0625 gives 0.063; ● -0.0625 gives -0.063; ● -0.0001 gives -0; ● -0 gives +0."
@@ -36,3 +43,10 @@ pub record Table : Type 0 where
   pub none-quiet : cut (quietFrames 0 0) 0 ≡ 2000
   pub first-quiet : cut (quietFrames 1200 8) 0 ≡ 1203
   pub last-quiet : cut (quietFrames 1992 8) 0 ≡ 1995
+  -- Loops: "● Keys 1 1 1 2 give 1 2; ● 1 1 stays; ● 1 2 1 2 1 2 1 gives 1 2 1."
+  pub three-copies : keysLeft (1 ∷ 1 ∷ 1 ∷ 2 ∷ []) ≡ 1 ∷ 2 ∷ []
+  pub two-copies : keysLeft (1 ∷ 1 ∷ []) ≡ 1 ∷ 1 ∷ []
+  pub runs-of-two : keysLeft (1 ∷ 2 ∷ 1 ∷ 2 ∷ 1 ∷ 2 ∷ 1 ∷ []) ≡ 1 ∷ 2 ∷ 1 ∷ []
+  -- Onsets and ends: "● No loud frame, words (0.1, 0.12) and (0.13, 0.2), units 3 each: the edge is 0.16 for both."
+  pub edge-shared : snapEnds (replicate 30 false) (double false 30 100) (3 ∷ 3 ∷ []) (edges (double false 10 100 ∷ double false 13 100 ∷ []) (double false 12 100 ∷ double false 20 100 ∷ []))
+      ≡ edges (double false 10 100 ∷ double false 16 100 ∷ []) (double false 16 100 ∷ double false 20 100 ∷ [])

@@ -1,8 +1,11 @@
 // The tests behind the refusals of document 01, and their order.
 ghost use mathlib.Core.Path.{_≡_};
+ghost use mathlib.Core.Bool.{_||_};
 ghost use Rattle.checks.specs.Limits.{any, timeOf, limitOf, badTime, badWordTimes, badSpanTimes, badLetters, badCounts, outside, differ, many as manyOf, manySamples, fewPlaces, otherLevels};
 ghost use Rattle.checks.specs.Parts.{noTime};
 ghost use Rattle.checks.specs.Order.{chain as chainOf};
+ghost use Rattle.checks.specs.Calls.{uneven, ofWords, withLevels, withTime, soundRule, timedRule};
+ghost use Rattle.base.specs.Words.{words};
 use base::Refusal;
 use base::Rule;
 
@@ -22,6 +25,12 @@ pub struct Applies {
     pub levels: bool,
     pub places: bool,
     pub cut: bool,
+}
+
+// What a call answers that moves the times of words: that it did, or why it refuses.
+pub enum Answer {
+    Accepted,
+    Refused(Refusal),
 }
 
 // The first refusal that applies.
@@ -202,4 +211,120 @@ pub fn other_levels(levels: usize, samples: usize) -> bool
     ensures { λ r. ⌜ r ≡ otherLevels levels samples ⌝ }
 {
     levels != samples / 160
+}
+
+// Whether one of a word's five lists is not as long as the starts (refusal 3).
+fn lists_differ(starts: usize, ends: usize, letters: usize, units: usize, keys: usize) -> bool
+    ensures { λ r. ⌜ r ≡ uneven starts ends letters units keys ⌝ }
+{
+    if differ_in_length(ends, starts) {
+        return true;
+    }
+    if differ_in_length(letters, starts) {
+        return true;
+    }
+    if differ_in_length(units, starts) {
+        return true;
+    }
+    differ_in_length(keys, starts)
+}
+
+// What applies of a word list: 3, 4, 1, 2.
+pub fn of_words(
+    starts: &[f64],
+    ends: &[f64],
+    letters: &[u32],
+    units: &[u32],
+    keys: &[u32],
+) -> Applies
+    ensures { λ r. ⌜ r ≡ ofWords (words (now (starts .entry)) (now (ends .entry)) (now (letters .entry)) (now (units .entry)) (now (keys .entry))) ⌝ }
+{
+    Applies {
+        lengths: lists_differ(
+            starts.len(),
+            ends.len(),
+            letters.len(),
+            units.len(),
+            keys.len(),
+        ),
+        counts: many(starts.len()),
+        times: bad_word_times(starts, ends),
+        letters: bad_letters(letters, units),
+        levels: false,
+        places: false,
+        cut: false,
+    }
+}
+
+// Either of two.
+fn either(a: bool, b: bool) -> bool
+    ensures { λ r. ⌜ r ≡ (a || b) ⌝ }
+{
+    if a {
+        return true;
+    }
+    b
+}
+
+// And what applies of so many levels, of a recording of so many samples: 4, 7.
+pub fn with_levels(a: Applies, levels: usize, samples: usize) -> Applies
+    ensures { λ r. ⌜ r ≡ withLevels levels samples a ⌝ }
+{
+    Applies {
+        lengths: a.lengths,
+        counts: either(a.counts, many_samples(samples)),
+        times: a.times,
+        letters: a.letters,
+        levels: either(a.levels, other_levels(levels, samples)),
+        places: a.places,
+        cut: a.cut,
+    }
+}
+
+// And what applies of one time more: 1.
+pub fn with_time(a: Applies, t: f64) -> Applies
+    ensures { λ r. ⌜ r ≡ withTime t a ⌝ }
+{
+    Applies {
+        lengths: a.lengths,
+        counts: a.counts,
+        times: either(a.times, bad_time(t)),
+        letters: a.letters,
+        levels: a.levels,
+        places: a.places,
+        cut: a.cut,
+    }
+}
+
+// What the tests find of a stage on sound: 3, 4, 1, 2, 7.
+pub fn sound_rule(
+    starts: &[f64],
+    ends: &[f64],
+    letters: &[u32],
+    units: &[u32],
+    keys: &[u32],
+    levels: usize,
+    samples: usize,
+) -> Rule
+    ensures { λ r. ⌜ r ≡ soundRule (words (now (starts .entry)) (now (ends .entry)) (now (letters .entry)) (now (units .entry)) (now (keys .entry))) levels samples ⌝ }
+{
+    let a = of_words(starts, ends, letters, units, keys);
+    chain(with_levels(a, levels, samples))
+}
+
+// What the tests find of a stage on sound that takes a duration: 3, 4, 1, 2, 7.
+pub fn timed_rule(
+    starts: &[f64],
+    ends: &[f64],
+    letters: &[u32],
+    units: &[u32],
+    keys: &[u32],
+    levels: usize,
+    samples: usize,
+    duration: f64,
+) -> Rule
+    ensures { λ r. ⌜ r ≡ timedRule (words (now (starts .entry)) (now (ends .entry)) (now (letters .entry)) (now (units .entry)) (now (keys .entry))) levels samples duration ⌝ }
+{
+    let a = of_words(starts, ends, letters, units, keys);
+    chain(with_time(with_levels(a, levels, samples), duration))
 }

@@ -5,3 +5,4 @@ pub mod Floors
 pub mod Promises
 pub mod Walks
 mod Witnesses
+pub mod Scan

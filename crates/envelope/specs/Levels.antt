@@ -1,8 +1,9 @@
 -- envelope.rs, and document 01's "Levels": the levels of a recording, the floor, and the rows of loud and of quiet frames. Assumes nothing.
 use Prim.Native.Nat.{ℕ, _*_, _/_}
-use mathlib.Core.Bool.{Bool}
+use mathlib.Core.Bool.{Bool, false}
 use mathlib.Core.List.{List, map}
-use lib.ListN.{length, take, drop}
+use lib.IntN.{ℤ, pos, negsuc}
+use lib.ListN.{length, take, drop, getD}
 use lib.Ieee.{Float, binary64, add, mul, div, lt, le, ofBits}
 use Rattle.base.specs.Loop.{fold, table}
 use Rattle.js.specs.Js.{jsMax}
@@ -58,6 +59,11 @@ floor ls = mul binary64 (peak ls) hundredth
 -- ---- "Loud: level > floor, frame existing." Row by row; a frame outside the row is not loud.
 unfoldable pub loudRow : Float → List Float → List Bool
 loudRow f ls = map (λ v. lt f v) ls
+
+-- ---- Envelope::loud, of a frame that may be negative: a frame outside the row is not loud.
+abbrev pub loud : List Bool → ℤ → Bool
+loud row (pos k) = getD row k false
+loud row (negsuc k) = false
 
 -- ---- "Quiet, for pieces only: level <= floor."
 unfoldable pub quietRow : Float → List Float → List Bool

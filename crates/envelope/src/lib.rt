@@ -6,6 +6,7 @@ ghost use Prim.Native.Nat.{_*_, _/_, _≤_};
 ghost use lib.ListN.{length, getD, drop};
 ghost use Rattle.base.specs.Refusals.{first};
 ghost use Rattle.envelope.specs.Levels.{squares as squaresOf, level as levelOf, levels as levelsOf, floor as floorOf, frames, loudRow};
+ghost use Rattle.envelope.specs.Parts.{Met, Past};
 ghost use Rattle.envelope.specs.Calls.{output, tests, accepted, envelopeCall, ownFloor};
 use base::Refusal;
 use base::Rule;
@@ -129,4 +130,32 @@ pub fn loud_at(levels: &[f64], floor: f64, k: usize) -> bool
         return levels[k] > floor;
     }
     false
+}
+
+// The first frame from lo to before hi that is loud, or that is not; where there is none, the end of the search.
+pub fn first_frame(levels: &[f64], floor: f64, want: bool, lo: usize, hi: usize) -> usize
+    ensures { λ r. ⌜ Met (loudRow floor (now (levels .entry))) want lo hi r ⌝ }
+{
+    let mut k = lo;
+    while k < hi {
+        if loud_at(levels, floor, k) == want {
+            return k;
+        }
+        k += 1;
+    }
+    k
+}
+
+// The frame past the last loud one from lo to before hi; lo where there is none.
+pub fn last_frame(levels: &[f64], floor: f64, lo: usize, hi: usize) -> usize
+    ensures { λ r. ⌜ Past (loudRow floor (now (levels .entry))) lo hi r ⌝ }
+{
+    let mut k = hi;
+    while lo < k {
+        if loud_at(levels, floor, k - 1) {
+            return k;
+        }
+        k -= 1;
+    }
+    lo
 }

@@ -1,15 +1,16 @@
 -- An i64 is read back from its bits as itself, and what the machine computes of it is what ℤ says. Assumes nothing.
 use Prim.Native.Nat.{ℕ, zero, suc, _+_, _<_, _^_}
 use mathlib.Core.Bool.{Bool, true, false, true≢false}
-use mathlib.Core.Path.{_≡_, ap}
+use mathlib.Core.Path.{_≡_, refl, ap, _∙_}
 use lib.IntN.{ℤ, pos, negsuc, negℤ, natAbs, _-ℤ_, +ℤ-idl}
 use lib.Dec.{T}
-use lib.Signed.{mag, ltZ, nonNeg}
+use lib.Signed.{mag, ltZ, nonNeg, natAbs-le}
 use native.Mathlib.Omega.{arith}
 use borrow.Author.Tests.{ltb-true, le-ltb}
 use mir.Syntax.{w64}
-use mir.Val.{SFits, toZ, ofZ}
+use mir.Val.{Fits, SFits, toZ, ofZ}
 use mir.ValLaws.{toZ-pos, toZ-ofZ}
+use Rattle.base.specs.Whole.{toNat}
 
 -- ---- -n, for an n that is an i64
 
@@ -53,3 +54,24 @@ module _ (z : ℤ) (h : mag z < 2 ^ 63) where
 
     pub size-back : mag z + 1 ≡ natAbs z
     size-back = size-one z (test-back t)
+
+-- ---- an i64 as an index: where it is not negative it fits, and is the number itself
+
+size-nat : (k : ℤ) → ltZ k (pos 0) ≡ false → natAbs k ≡ toNat k
+size-nat (pos n) t = refl
+size-nat (negsuc n) t = absurd (true≢false t)
+
+below-nat : (k : ℤ) → ltZ k (pos 0) ≡ true → toNat k ≡ 0
+below-nat (pos n) t = absurd (omega (arith, ltb-true n 0 t))
+below-nat (negsuc n) t = refl
+
+module _ (k : ℤ) (h : mag k < 2 ^ 63) where
+  pub index-none : ltZ (toZ w64 (ofZ w64 k)) (pos 0) ≡ true → toNat k ≡ 0
+  index-none t = below-nat k (test-back k h t)
+
+  module _ (t : ltZ (toZ w64 (ofZ w64 k)) (pos 0) ≡ false) where
+    pub index-fits : T (nonNeg (toZ w64 (ofZ w64 k))) × Fits w64 (natAbs (toZ w64 (ofZ w64 k)))
+    index-fits = rw (read-back k h) (not-below k (test-back k h t), record { fits = omega (arith, natAbs-le k h) })
+
+    pub index-is : natAbs (toZ w64 (ofZ w64 k)) ≡ toNat k
+    index-is = ap natAbs (read-back k h) ∙ size-nat k (test-back k h t)

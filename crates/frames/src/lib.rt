@@ -2,6 +2,7 @@
 ghost use mathlib.Core.Path.{_≡_};
 ghost use Prim.Native.Nat.{min, _-_, _*_, _^_};
 ghost use lib.IntN.{pos, negℤ, natAbs};
+ghost use lib.Signed.{ltZ};
 ghost use lib.Ieee.{binary64, ofInt, toUnsigned};
 ghost use Rattle.base.specs.Whole.{toNat, maxZ};
 ghost use Rattle.frames.specs.Frames.{inFrames, floorI64, ceilI64, frameAt, frameCeil, frameFromZero, frameSeconds};
@@ -98,6 +99,23 @@ fn from_zero(k: i64) -> i64
         return 0;
     }
     k
+}
+
+// Whether a frame lies before frame 0.
+pub fn before_zero(k: i64) -> bool
+    ensures { λ r. ⌜ r ≡ ltZ k (pos 0) ⌝ }
+{
+    k < 0
+}
+
+// A frame as an index, raised to 0 (Rust's k.max(0) as usize).
+pub fn to_index(k: i64) -> usize
+    ensures { λ r. ⌜ r ≡ toNat k ⌝ }
+{
+    if k < 0 {
+        return 0usize;
+    }
+    k as usize
 }
 
 // floor(t * 16000 / 160) (envelope.rs, frame_at).

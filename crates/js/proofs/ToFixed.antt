@@ -55,7 +55,7 @@ nearestUp-same a b c d B D e =
     cross : (a * 2 + b) * (d * 2) ≡ (c * 2 + d) * (b * 2)
     cross = simp (add-mul, mul-assoc, mul-comm, mul-left-comm) (omega (arith, e))
 
-nearestUp-bounds : (a b : ℕ) → 0 < b → (nearestUp a b * b * 2 ≤ a * 2 + b) × (a * 2 + b < nearestUp a b * b * 2 + b * 2)
+pub nearestUp-bounds : (a b : ℕ) → 0 < b → (nearestUp a b * b * 2 ≤ a * 2 + b) × (a * 2 + b < nearestUp a b * b * 2 + b * 2)
 nearestUp-bounds a b B =
     let at : nearestUp a b * (b * 2) + (a * 2 + b) % (b * 2) ≡ a * 2 + b =
     subst (λ (q : ℕ). q * (b * 2) + (a * 2 + b) % (b * 2) ≡ a * 2 + b) (sym (nearestUp-div a b B)) (div-add-mod' (a * 2 + b) (b * 2)) in

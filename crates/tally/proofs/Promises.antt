@@ -1,7 +1,7 @@
 -- The call `peak` in plain words: accepted exactly when, refused with 4 and with 1 exactly when.
 -- And its answer: NaN exactly when, +infinity exactly when; this for all times. Assumes nothing.
-use mathlib.Core.Path.{_≡_, refl, sym, ap, _∙_}
-use mathlib.Core.Bool.{Bool, true, false, cond, not, _&&_, _||_, true≢false}
+use mathlib.Core.Path.{_≡_, refl, sym, _∙_}
+use mathlib.Core.Bool.{Bool, true, false, cond, _||_, true≢false}
 use mathlib.Core.Logic.{_↔_, _⊎_, inl, inr}
 use mathlib.Core.List.{List}
 use Prim.Native.Nat.{ℕ, _≤_, _<_}
@@ -10,40 +10,20 @@ use borrow.Author.Tests.{ltb-true, ltb-false}
 use lib.IntN.{ℤ, pos}
 use lib.Signed.{_≤ℤ_, _<ℤ_}
 use lib.ListN.{length, getD}
-use lib.Ieee.{Float, nan, inf, fin, binary64, isNan, le, mul, ofBits}
+use lib.Ieee.{Float, nan, inf, binary64, isNan, mul, ofBits}
 use Rattle.base.specs.Whole.{minZ}
 use Rattle.base.specs.Refusals.{first}
 use Rattle.base.specs.declared.Refusal.{Refusal}
 use Rattle.base.specs.declared.Refusal.the-variants.{Counts, Time}
 use Rattle.base.specs.declared.Rule.the-variants.{Fine, Breaks}
 use Rattle.base.proofs.First.{first-here, first-skip, first-end}
-use Rattle.checks.specs.Limits.{least, most, timeOf, isFine, badTime, manySamples}
-use Rattle.checks.specs.declared.TimeTest.{TimeTest}
-use Rattle.checks.specs.declared.TimeTest.the-variants as time
-use Rattle.checks.proofs.Finite.{time-fine}
+use Rattle.checks.specs.Limits.{badTime, manySamples}
+use Rattle.checks.proofs.Within.{Within, within-fine, fine-within}
 use Rattle.frames.specs.Frames.{rate, floorI64, ceilI64}
 use Rattle.tally.specs.Peak.{wordPeak, tests, peakCall}
 use Rattle.tally.specs.declared.Level.the-variants.{Accepted, Refused}
 use Rattle.tally.proofs.Limits.{call-by}
 use Rattle.tally.proofs.Extremes.{range-nan, nan-range, range-top, top-range}
-
--- ---- a time from -7,200 to 7,200, which NaN and the infinities are not
-abbrev pub Within : Float → Type 0
-Within t = (le least t ≡ true) × (le t most ≡ true)
-
-within-fine : (t : Float) → Within t → badTime t ≡ false
-within-fine t h = ap (λ (x : TimeTest). not (isFine x)) (sym (time-fine t (h .0) (h .1)))
-
-fine-within : (t : Float) → badTime t ≡ false → Within t
-unfolding timeOf
-fine-within nan h = absurd (true≢false h)
-fine-within (inf s) h = absurd (true≢false h)
-fine-within (fin s m e) h = go (le least (fin s m e)) (le (fin s m e) most) h
-  where
-    go : (a b : Bool) → not (isFine (cond (a && b) time.Fine time.Outside)) ≡ false → (a ≡ true) × (b ≡ true)
-    go true true k = (refl, refl)
-    go true false k = absurd (true≢false k)
-    go false b k = absurd (true≢false k)
 
 bad-outside : (t : Float) → badTime t ≡ true → Within t → ⊥
 bad-outside t h w = true≢false (sym h ∙ within-fine t w)

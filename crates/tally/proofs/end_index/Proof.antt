@@ -1,6 +1,6 @@
 -- `tally::end_index` meets its contract, by the sign of k. Assumes nothing.
 use native.Mathlib.Omega.{arith}
-use Rattle.tally.proofs.Ends.{index-none, index-fits, index-is}
+use Rattle.frames.proofs.Signed.{index-none, index-fits, index-is}
 use Rattle.tally.proofs.end_index.Statement.{statement}
 use Rattle.tally.proofs.end_index.Tie as tie
 

@@ -4,8 +4,8 @@ use Prim.Native.Nat.{min}
 use mathlib.Core.Path.{ap, _∙_}
 use lib.Ieee.{ofBits, div}
 use Rattle.base.specs.Whole.{toNat}
-use Rattle.frames.proofs.Signed.{read-back, test-back}
-use Rattle.tally.proofs.Ends.{less-back, index-fits, index-is}
+use Rattle.frames.proofs.Signed.{read-back, test-back, index-fits, index-is}
+use Rattle.tally.proofs.Ends.{less-back}
 use Rattle.tally.proofs.Ranges.{peak-before, peak-none, peak-from}
 use Rattle.tally.proofs.word_peak.Statement.{statement}
 use Rattle.tally.proofs.word_peak.Tie as tie

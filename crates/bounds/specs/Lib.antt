@@ -1,0 +1,2 @@
+-- How large a time can be.
+pub mod Bounds

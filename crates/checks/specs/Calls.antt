@@ -1,0 +1,74 @@
+-- Calls on words: which refusals apply, and what a call answers and leaves that moves only times. Assumes nothing.
+use Prim.Native.Nat.{ℕ}
+use mathlib.Core.Bool.{Bool, false, _||_}
+use lib.ListN.{length}
+use lib.Ieee.{Float}
+use Rattle.base.specs.Words.{Words, Edges, withEdges}
+use Rattle.base.specs.declared.Rule.{Rule}
+use Rattle.base.specs.declared.Rule.the-variants.{Fine, Breaks}
+use Rattle.checks.specs.Limits.{differ, many, manySamples, badTime, badWordTimes, badLetters, otherLevels}
+use Rattle.checks.specs.Order.{chain}
+use Rattle.checks.specs.declared.Applies.{Applies}
+use Rattle.checks.specs.declared.Answer.{Answer}
+use Rattle.checks.specs.declared.Answer.the-variants.{Accepted, Refused}
+
+-- ---- 3: of a word's five lists, one is not as long as the starts.
+unfoldable pub uneven : ℕ → ℕ → ℕ → ℕ → ℕ → Bool
+uneven starts ends letters units keys = differ ends starts || (differ letters starts || (differ units starts || differ keys starts))
+
+-- ---- What applies of a word list: 3, 4, 1, 2.
+unfoldable pub ofWords : Words → Applies
+ofWords ws = record {
+  lengths = uneven (length (ws .starts)) (length (ws .ends)) (length (ws .letters)) (length (ws .units)) (length (ws .keys));
+  counts = many (length (ws .starts));
+  times = badWordTimes (ws .starts) (ws .ends);
+  letters = badLetters (ws .letters) (ws .units);
+  levels = false;
+  places = false;
+  cut = false;
+}
+
+-- ---- And what applies of so many levels, of a recording of so many samples: 4, 7.
+unfoldable pub withLevels : ℕ → ℕ → Applies → Applies
+withLevels levels samples a = record {
+  lengths = a .lengths;
+  counts = a .counts || manySamples samples;
+  times = a .times;
+  letters = a .letters;
+  levels = a .levels || otherLevels levels samples;
+  places = a .places;
+  cut = a .cut;
+}
+
+-- ---- And what applies of one time more, as a duration: 1.
+unfoldable pub withTime : Float → Applies → Applies
+withTime t a = record {
+  lengths = a .lengths;
+  counts = a .counts;
+  times = a .times || badTime t;
+  letters = a .letters;
+  levels = a .levels;
+  places = a .places;
+  cut = a .cut;
+}
+
+-- ---- What the tests find of a stage on sound: 3, 4, 1, 2, 7.
+unfoldable pub soundRule : Words → ℕ → ℕ → Rule
+soundRule ws levels samples = chain (withLevels levels samples (ofWords ws))
+
+-- ---- The same, with a duration among the times.
+unfoldable pub timedRule : Words → ℕ → ℕ → Float → Rule
+timedRule ws levels samples duration = chain (withTime duration (withLevels levels samples (ofWords ws)))
+
+-- ---- What a call gives back that moves the words' times, and what the words are afterwards.
+pub record Output : Type 0 where
+  pub answer : Answer
+  pub words : Words
+
+abbrev pub output : Answer → Words → Output
+output a ws = record { answer = a; words = ws }
+
+-- ---- By what its tests find: the words with their new edges, or the words as they are.
+abbrev pub moved : Rule → Edges → Words → Output
+moved Fine es ws = output Accepted (withEdges es ws)
+moved (Breaks r) es ws = output (Refused r) ws

@@ -1,0 +1,4 @@
+-- Loops collapsed to their first copy.
+pub mod Loops
+pub mod Calls
+pub mod Parts

@@ -1,0 +1,84 @@
+-- loops.rs, and document 01's "Loops": a run of 1 to 4 words repeated three or more times in a row keeps its first copy. Assumes nothing.
+use Prim.Native.Nat.{ℕ, _+_, _-_, _*_}
+use mathlib.Core.Bool.{Bool, true, false, cond, _&&_}
+use mathlib.Core.List.{List, [], _∷_, _++_}
+use lib.IntN.{ℤ, pos}
+use lib.Dec.{eqb, leb}
+use lib.ListN.{length, take, drop, replicate}
+use lib.Ieee.{Float, binary64, ofBits}
+use Rattle.base.specs.Loop.{Turn, on, out, each, run}
+use Rattle.base.specs.Words.{Words, words}
+
+-- ---- MAX_RUN, the longest repeated run of words looked for; MIN_COPIES, how many copies in a row, or more, are a loop.
+abbrev pub maxRun : ℕ
+maxRun = 4
+
+abbrev pub minCopies : ℕ
+minCopies = 3
+
+-- ---- How many words there are.
+abbrev pub count : Words → ℕ
+count ws = length (ws .keys)
+
+-- ---- Two lists of keys are equal.
+unfoldable pub equal : List ℕ → List ℕ → Bool
+equal [] [] = true
+equal [] (y ∷ ys) = false
+equal (x ∷ xs) [] = false
+equal (x ∷ xs) (y ∷ ys) = eqb x y && equal xs ys
+
+-- ---- keys[a..a + n]
+abbrev pub part : List ℕ → ℕ → ℕ → List ℕ
+part keys a n = take n (drop a keys)
+
+-- ---- Two runs of n words are equal: keys[a..a + n] == keys[b..b + n].
+unfoldable pub same : ℕ → Words → ℕ → ℕ → Bool
+same n ws a b = equal (part (ws .keys) a n) (part (ws .keys) b n)
+
+-- ---- while end + n <= out.len() && same(&keys, i, end) { end += n; }, from end = i + n. A turn goes on by a word or more, so there are
+-- no more turns than words.
+abbrev pub copyTurn : ℕ → Words → ℕ → ℤ → ℕ → Turn ℕ
+copyTurn n ws i k end = cond (leb (end + n) (count ws) && same n ws i end) (on (end + n)) (out end)
+
+unfoldable pub copiesEnd : ℕ → Words → ℕ → ℕ
+copiesEnd n ws i = run (copyTurn n ws i) (count ws) (pos 0) (on (i + n))
+
+-- ---- out.drain(a..e), keys.drain(a..e)
+abbrev pub drained : {A : Type 0} → ℕ → ℕ → List A → List A
+drained a e xs = take a xs ++ drop e xs
+
+abbrev pub drain : ℕ → ℕ → Words → Words
+drain a e ws = words (drained a e (ws .starts)) (drained a e (ws .ends)) (drained a e (ws .letters)) (drained a e (ws .units)) (drained a e (ws .keys))
+
+-- ---- struct Collapsed: "The words, each loop down to its first copy", and whether "a loop was collapsed".
+pub record Collapsed : Type 0 where
+  pub words : Words
+  pub found : Bool
+
+-- ---- i + MIN_COPIES * n <= out.len(), and same(&keys, i, i + n) && same(&keys, i, i + 2 * n)
+unfoldable pub isLoop : ℕ → ℕ → Words → Bool
+isLoop n i ws = leb (i + minCopies * n) (count ws) && (same n ws i (i + n) && same n ws i (i + 2 * n))
+
+-- ---- One place i: a loop there keeps its first copy. Past the last place with room for three copies the words stay, as where the Rust's
+-- `while` has ended.
+unfoldable pub loopTurn : ℕ → ℕ → Collapsed → Collapsed
+loopTurn n i c = cond (isLoop n i (c .words)) (record { words = drain (i + n) (copiesEnd n (c .words) i) (c .words); found = true }) c
+
+-- ---- One pass, for runs of n words: let mut i = 0; while i + MIN_COPIES * n <= out.len() { .. i += 1; }
+unfoldable pub pass : ℕ → Collapsed → Collapsed
+pass n c = each (loopTurn n) (count (c .words)) 0 c
+
+-- ---- collapse_loops: for n in 1..=MAX_RUN
+unfoldable pub collapseLoops : Words → Collapsed
+collapseLoops ws = each pass maxRun 1 (record { words = ws; found = false })
+
+-- ---- "Places past it become all zero": a list in so many places.
+abbrev pub inPlaces : {A : Type 0} → A → ℕ → List A → List A
+inPlaces zero places xs = xs ++ replicate (places - length xs) zero
+
+abbrev pub zeroF : Float
+zeroF = ofBits binary64 0
+
+unfoldable pub wordsInPlaces : ℕ → Words → Words
+wordsInPlaces places ws =
+    words (inPlaces zeroF places (ws .starts)) (inPlaces zeroF places (ws .ends)) (inPlaces 0 places (ws .letters)) (inPlaces 0 places (ws .units)) (inPlaces 0 places (ws .keys))

@@ -1,0 +1,58 @@
+-- The call `snap_onsets` in plain words, and for the code what its tests found. By the laws of calls that move only times. Assumes nothing.
+use Prim.Native.Nat.{ℕ}
+use mathlib.Core.Path.{_≡_}
+use mathlib.Core.Logic.{_↔_}
+use mathlib.Core.List.{List}
+use lib.ListN.{length}
+use lib.Ieee.{Float}
+use Rattle.base.specs.Words.{Words, words, Edges, edges}
+use Rattle.base.specs.declared.Refusal.{Refusal}
+use Rattle.base.specs.declared.Rule.{Rule}
+use Rattle.base.specs.declared.Rule.the-variants.{Fine, Breaks}
+use Rattle.base.proofs.First.{First}
+use Rattle.checks.specs.Order.{inOrder}
+use Rattle.checks.specs.Calls.{soundRule, output}
+use Rattle.checks.specs.declared.Answer.the-variants.{Accepted, Refused}
+use Rattle.checks.proofs.Moved as moves
+use Rattle.envelope.specs.Levels.{loudRow}
+use Rattle.onsets.specs.Onsets.{snapOnsets, onsetsCall}
+
+module _ (ws : Words) (levels : List Float) (floor : Float) (count : ℕ) where
+  -- the edges that the stage gives
+  abbrev given : Edges
+  given = snapOnsets (loudRow floor levels) (edges (ws .starts) (ws .ends))
+
+  -- ---- accepted exactly when words, samples and levels are within the limits
+  pub accepted-exactly : moves.SoundWithin ws (length levels) count ↔ (onsetsCall ws levels floor count .answer ≡ Accepted)
+  unfolding onsetsCall
+  accepted-exactly = moves.sound-accepted ws (length levels) count given
+
+  -- ---- and then the words have the edges that the stage gives
+  pub accepted-words : onsetsCall ws levels floor count .answer ≡ Accepted → onsetsCall ws levels floor count .words ≡ words (given .starts) (given .ends) (ws .letters) (ws .units) (ws .keys)
+  unfolding onsetsCall
+  accepted-words h = moves.accepted-words given ws (soundRule ws (length levels) count) h
+
+  -- ---- refused with r exactly when r is the first refusal that applies, of 3, 4, 1, 2, 7
+  pub refused-exactly : (r : Refusal) → First r (inOrder (moves.soundApplies ws (length levels) count)) ↔ (onsetsCall ws levels floor count .answer ≡ Refused r)
+  unfolding onsetsCall
+  refused-exactly r = moves.sound-refused ws (length levels) count given r
+
+  -- ---- a refusal changes nothing
+  pub refusal-keeps : (r : Refusal) → onsetsCall ws levels floor count .answer ≡ Refused r → onsetsCall ws levels floor count .words ≡ ws
+  unfolding onsetsCall
+  refusal-keeps r h = moves.refusal-keeps given ws r (soundRule ws (length levels) count) h
+
+  -- ---- letters, units and keys stay, accepted or refused
+  pub others-stay : moves.Keeps ws (onsetsCall ws levels floor count .words)
+  unfolding onsetsCall
+  others-stay = moves.moved-keeps given ws (soundRule ws (length levels) count)
+
+  -- for the code
+  module _ {found : Rule} (is : found ≡ soundRule ws (length levels) count) where
+    pub refused-made : (r : Refusal) → found ≡ Breaks r → output (Refused r) ws ≡ onsetsCall ws levels floor count
+    unfolding onsetsCall
+    refused-made r e = moves.refused-made (soundRule ws (length levels) count) given ws is r e
+
+    pub accepted-made : (s e : List Float) → found ≡ Fine → edges s e ≡ given → output Accepted (words s e (ws .letters) (ws .units) (ws .keys)) ≡ onsetsCall ws levels floor count
+    unfolding onsetsCall
+    accepted-made s e f m = moves.moved-made (soundRule ws (length levels) count) given ws is s e f m

@@ -1,0 +1,4 @@
+-- Laws of snap_onsets.
+pub mod Starts
+pub mod Calls
+mod Witnesses

@@ -1,0 +1,64 @@
+-- Inputs for each answer of `snap_onsets`, by computing it: one in which a start walks back, and one for each refusal. Assumes nothing.
+use Prim.Native.Nat.{ℕ}
+use mathlib.Core.Bool.{false}
+use mathlib.Core.List.{List, [], _∷_, _++_}
+use mathlib.Core.Path.{_≡_, refl}
+use lib.IntN.{pos}
+use lib.ListN.{replicate}
+use lib.Count.{trailingZeros}
+use lib.Ieee.{Float, nan, fin, binary64, isNan, round, size, span, climb, units, odd, ofBits, ofFields, ofInt, add, sub, neg, sum, mul, div, lt, le, eq}
+use Rattle.base.specs.Refusals.{first}
+use Rattle.base.specs.Words.{Words, words}
+use Rattle.base.specs.Loop.{each, runBack}
+use Rattle.base.specs.declared.Refusal.the-variants.{Time, Letters, Lengths, Counts, Levels}
+use Rattle.js.specs.Js.{under, jsMin}
+use Rattle.frames.specs.Frames.{floorI64, ceilI64, frameAt, frameCeil, frameSeconds}
+use Rattle.envelope.specs.Levels.{loudRow}
+use Rattle.checks.specs.Limits.{any, timeOf}
+use Rattle.checks.specs.Order.{inOrder, chain}
+use Rattle.checks.specs.Calls.{uneven, ofWords, withLevels, soundRule, output}
+use Rattle.checks.specs.declared.Answer.the-variants.{Accepted, Refused}
+use Rattle.onsets.specs.Onsets.{onsetFrame, onsetOf, prevEnd, onsetTurn, snapOnsets, onsetsCall}
+
+-- so many hundredths of a second
+abbrev time : ℕ → Float
+time n = round binary64 false n 100
+
+abbrev one : Float
+one = fin false 1 (pos 0)
+
+abbrev two : Float
+two = fin false 1 (pos 1)
+
+-- 3 loud frames, 8 quiet ones, 3 loud ones, 7 quiet ones, 9 loud ones, over a floor of 1
+abbrev heard : List Float
+heard = replicate 3 two ++ (replicate 8 one ++ (replicate 3 two ++ (replicate 7 one ++ replicate 9 two)))
+
+-- one word
+abbrev word : ℕ → Float → Float → Words
+word letters start end = words (start ∷ []) (end ∷ []) (letters ∷ []) (9 ∷ []) (1 ∷ [])
+
+-- the word starts at 0.25 s, in a sound that rises at 0.11 s, across 7 quiet frames
+walks-back : onsetsCall (word 4 (time 25) (time 30)) heard one 4800 ≡ output Accepted (word 4 (time 11) (time 30))
+unfolding onsetsCall soundRule chain inOrder ofWords withLevels uneven first any timeOf loudRow snapOnsets onsetTurn onsetOf onsetFrame prevEnd each runBack frameAt frameCeil floorI64 ceilI64 frameSeconds jsMin under isNan add sub neg sum mul div lt le eq ofInt round size span climb units odd ofBits ofFields trailingZeros
+walks-back = refl
+
+refuses-3 : let ws = words (time 0 ∷ []) [] [] [] [] in onsetsCall ws heard one 4800 ≡ output (Refused Lengths) ws
+unfolding onsetsCall soundRule chain inOrder ofWords withLevels uneven first
+refuses-3 = refl
+
+refuses-4 : onsetsCall (word 4 (time 25) (time 30)) heard one 57600001 ≡ output (Refused Counts) (word 4 (time 25) (time 30))
+unfolding onsetsCall soundRule chain inOrder ofWords withLevels uneven first
+refuses-4 = refl
+
+refuses-1 : onsetsCall (word 4 nan (time 30)) heard one 4800 ≡ output (Refused Time) (word 4 nan (time 30))
+unfolding onsetsCall soundRule chain inOrder ofWords withLevels uneven first any timeOf lt le eq round size span climb units odd ofBits ofFields trailingZeros
+refuses-1 = refl
+
+refuses-2 : onsetsCall (word 1001 (time 25) (time 30)) heard one 4800 ≡ output (Refused Letters) (word 1001 (time 25) (time 30))
+unfolding onsetsCall soundRule chain inOrder ofWords withLevels uneven first any timeOf lt le eq round size span climb units odd ofBits ofFields trailingZeros
+refuses-2 = refl
+
+refuses-7 : onsetsCall (word 4 (time 25) (time 30)) heard one 4960 ≡ output (Refused Levels) (word 4 (time 25) (time 30))
+unfolding onsetsCall soundRule chain inOrder ofWords withLevels uneven first any timeOf lt le eq round size span climb units odd ofBits ofFields trailingZeros
+refuses-7 = refl

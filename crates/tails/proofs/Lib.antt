@@ -1,0 +1,6 @@
+-- Laws of hand_back_tails.
+pub mod Searches
+pub mod Long
+pub mod Turns
+pub mod Calls
+mod Witnesses
