@@ -106,7 +106,8 @@ struct qiluvrait_level qiluvrait_peak(const float *samples, size_t samples_len, 
 /*
  * Words: five lists, in which place i has word i's start and end, its letters (1 to 1,000), its units
  * (1 to 10,000) and its key. At most 4,096 words. Times are from -7,200 to 7,200, and an end may
- * precede its start.
+ * precede its start. A call can leave times a little beyond that, below 8,192 in size: a later call
+ * refuses them with 1.
  */
 
 /* What qiluvrait_collapse_loops answers: the number of words left, and 1 where it is smaller than
@@ -118,9 +119,9 @@ struct qiluvrait_left {
 };
 
 /*
- * Loops of a recognizer: for n = 1 to 4, three or more equal neighbouring runs of n keys become one.
- * The words left come first in all five lists, and the places past them become zero. Refusals: 3, 4,
- * 1, 2.
+ * Loops of a recognizer: for n = 1 to 4, three or more equal neighbouring runs of n keys become one,
+ * the first of them with its times and numbers. The words left come first in all five lists, and the
+ * places past them become zero. Refusals: 3, 4, 1, 2.
  */
 struct qiluvrait_left qiluvrait_collapse_loops(double *starts, size_t starts_len, double *ends,
                                                size_t ends_len, uint32_t *letters, size_t letters_len,
@@ -128,26 +129,46 @@ struct qiluvrait_left qiluvrait_collapse_loops(double *starts, size_t starts_len
                                                size_t keys_len);
 
 /*
- * The three stages on sound take the levels and the floor of a recording of count samples, and answer
- * a refusal: 3, 4, 1, 2 or 7; 0 where they moved the times.
+ * The three stages on sound take the levels and the floor of a recording, and its number of samples in
+ * count. They answer 0 where they accept, whether a time moved or not, else the refusal: 3, 4, 1, 2 or
+ * 7. A frame is loud where its level is above the floor.
  */
 
-/* A word that starts on the last sound of the word before it starts with its own sound, and the word
- * before it ends no sooner than the sound that it gets back. */
+/*
+ * Tails. A word is moved that starts less than 0.05 s after the word before it ends, in a loud frame
+ * after a loud frame, where that sound stops within less than 0.05 s for each of the word's letters,
+ * 8 quiet frames or more follow, and then, before the word's end, 3 loud ones. It then starts at the
+ * first of these, and the word before ends no sooner than the first sound stops. Writes starts and
+ * ends.
+ */
 uint32_t qiluvrait_hand_back_tails(double *starts, size_t starts_len, double *ends, size_t ends_len,
                                    const uint32_t *letters, size_t letters_len, const uint32_t *units,
                                    size_t units_len, const uint32_t *keys, size_t keys_len,
                                    const double *levels, size_t levels_len, double floor, size_t count);
 
-/* A word that follows a pause of 0.15 s or more, and the first word, start where their sound rises,
- * at most 0.6 s sooner and not before the word before ends. */
+/*
+ * Onsets. The first word, and a word that starts 0.15 s or more after the word before it ends, look
+ * back from the frame of their start for the earliest loud frame that is reached without 8 quiet ones
+ * in a row, at most 60 frames, and not before the word before ends (the first: not before 0). The word
+ * starts there, if that is sooner; with no loud frame in reach it starts where its own frame does, if
+ * that is sooner. Writes starts.
+ */
 uint32_t qiluvrait_snap_onsets(double *starts, size_t starts_len, const double *ends, size_t ends_len,
                                const uint32_t *letters, size_t letters_len, const uint32_t *units,
                                size_t units_len, const uint32_t *keys, size_t keys_len,
                                const double *levels, size_t levels_len, double floor, size_t count);
 
-/* A word whose end is loose ends where its sound stops; two words with no length share an edge. The
- * duration, in seconds, bounds the last word, and is among the times for refusal 1. */
+/*
+ * Ends. A word shorter than 0.06 s shares an edge with the next one, if that starts less than 0.06 s
+ * after it, or before it: the word starts at the first loud frame up to the next one's end, if that is
+ * later, and the edge, the word's end and the next one's start, divides what the two have, at least
+ * 0.12 s, by their units, to three decimals. Any other word's sound is looked for from its start to the
+ * next one's (after the last word: to the duration, in seconds) and ends before 8 quiet frames. Where
+ * the word ends more than 0.05 s after its sound, or is shorter than 0.06 s, its end moves to the
+ * sound's end, or to the next word's start or the duration, if that is sooner, but stays 0.06 s after
+ * its start or later. A word without sound keeps its end. Writes starts and ends. The duration is
+ * among the times for refusal 1.
+ */
 uint32_t qiluvrait_snap_ends(double *starts, size_t starts_len, double *ends, size_t ends_len,
                              const uint32_t *letters, size_t letters_len, const uint32_t *units,
                              size_t units_len, const uint32_t *keys, size_t keys_len,

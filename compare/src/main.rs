@@ -18,6 +18,7 @@ mod sounds;
 mod spoken;
 mod stages;
 mod times;
+mod vectors;
 mod words;
 mod words_hour;
 mod words_refused;
@@ -37,7 +38,8 @@ const HOUR_RUNS: usize = 5;
 const USAGE: &str = "\
 usage: compare [CASES [NAME..]]    compare, CASES random cases of each function of numbers
                                    (10000000), and fewer of the others
-       compare bench [RUNS]        time both sides, medians over RUNS runs (15; of an hour 5)";
+       compare bench [RUNS]        time both sides, medians over RUNS runs (15; of an hour 5)
+       compare vectors             write the stored answers of words, the Rust's";
 
 fn all<T: Compared>(list: &'static [T]) -> impl Iterator<Item = &'static dyn Compared> {
     list.iter().map(|entry| entry as &dyn Compared)
@@ -96,6 +98,10 @@ fn main() -> ExitCode {
     };
     match (arguments.first().map(String::as_str), number(0), number(1)) {
         (None, _, _) => compare(CASES, &[]),
+        (Some("vectors"), _, None) => {
+            vectors::write();
+            ExitCode::SUCCESS
+        }
         (Some("bench"), _, None) => bench(None),
         (Some("bench"), _, Some(Ok(runs))) if runs > 0 => bench(Some(runs as usize)),
         (Some(_), Some(Ok(cases)), _) => compare(cases, &arguments[1..]),

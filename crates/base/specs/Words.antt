@@ -2,7 +2,7 @@
 use Prim.Native.Nat.{ℕ}
 use mathlib.Core.List.{List}
 use lib.ListN.{getD, set}
-use lib.Ieee.{Float, nan}
+use lib.Ieee.{Float, nan, binary64, ofBits}
 use Rattle.base.specs.declared.Times.{Times}
 
 -- ---- "A word has a start and end in seconds (f64) and three whole numbers": letters, units and key.
@@ -48,3 +48,11 @@ setTimes es i w = edges (set (es .starts) i (w .start)) (set (es .ends) i (w .en
 -- ---- The words with other edges: letters, units and keys stay.
 abbrev pub withEdges : Edges → Words → Words
 withEdges es ws = words (es .starts) (es .ends) (ws .letters) (ws .units) (ws .keys)
+
+-- ---- EDGE_QUIET of onsets.rs: so many quiet frames in a row, 80 ms, end a search.
+abbrev pub edgeQuiet : ℕ
+edgeQuiet = 8
+
+-- ---- LOOSE of onsets.rs, 0.05 s.
+abbrev pub loose : Float
+loose = ofBits binary64 0x3fa9_9999_9999_999a

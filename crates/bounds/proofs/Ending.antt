@@ -17,7 +17,7 @@ use lib.Ieee.Fits.{down-pos}
 use Rattle.base.specs.Whole.{toNat, minZ}
 use Rattle.base.specs.Loop.{on, out}
 use Rattle.base.specs.Floats.{_⊕_, _⊖_, _⊗_, _⊘_, num}
-use Rattle.base.specs.Words.{Edges, edges, times, timesAt, setTimes}
+use Rattle.base.specs.Words.{Edges, edges, times, timesAt, setTimes, edgeQuiet, loose}
 use Rattle.base.specs.declared.Times.{Times}
 use Rattle.base.specs.declared.NextStart.{NextStart}
 use Rattle.base.specs.declared.NextStart.the-variants.{Starts, NoNext}
@@ -31,7 +31,7 @@ use Rattle.js.proofs.ToFixed.{nearestUp-bounds}
 use Rattle.frames.specs.Frames.{frameAt, frameSeconds}
 use Rattle.envelope.specs.Levels.{loud}
 use Rattle.checks.proofs.Within.{AllFrom}
-use Rattle.ends.specs.Ends.{noLength, pairSpan, loose, edgeQuiet, nextStart, isPair, findTurn, pairStart, pairEdge, pairOf, Last, lastTurn, lastLoud, soundEnd, reach, orDuration, trimmed, endOf, endTurn, snapEnds}
+use Rattle.ends.specs.Ends.{noLength, pairSpan, nextStart, isPair, findTurn, pairStart, pairEdge, pairOf, Last, lastTurn, lastLoud, soundEnd, reach, orDuration, trimmed, endOf, endTurn, snapEnds, setPair}
 use Rattle.ends.proofs.Turns.{pair-in}
 use Rattle.bounds.specs.Bounds.{Under, EdgesUnder}
 use Rattle.bounds.proofs.Rounding.{under-more, round-under, add-under, max-under, min-under}
@@ -204,7 +204,7 @@ module _ (row : List Bool) (b : ℕ) (short : length row ≤ 360000) (large : 23
       more xs h j k = under-more b (b + growth) (getD xs j nan) (omega arith) (h j k)
 
       turn-under : EdgesUnder (b + growth) (endTurn row duration units i es)
-      unfolding endTurn w
+      unfolding endTurn setPair w
       turn-under = go (isPair (nextStart (es .starts) i) w) refl
         where
           ws : Under b (getD (es .starts) i nan)
@@ -250,7 +250,7 @@ module _ (row : List Bool) (b : ℕ) (short : length row ≤ 360000) (large : 23
 -- ---- a turn keeps both lists as long as they are
 turn-long : (row : List Bool) (duration : Float) (units : List ℕ) (i : ℕ) (es : Edges)
     → (length (endTurn row duration units i es .starts) ≡ length (es .starts)) × (length (endTurn row duration units i es .ends) ≡ length (es .ends))
-unfolding endTurn
+unfolding endTurn setPair
 turn-long row duration units i es = go (isPair (nextStart (es .starts) i) (timesAt es i)) _ _
   where
     go : (p : Bool) (t v : Times)

@@ -3,7 +3,7 @@
 use Prim.Native.Nat.{ℕ, zero, suc, _+_, _<_, _≤_, _^_}
 use mathlib.Core.Bool.{Bool, true, false, cond, _&&_}
 use mathlib.Core.List.{List}
-use mathlib.Core.Path.{_≡_, refl, sym, subst}
+use mathlib.Core.Path.{_≡_, sym, subst}
 use native.Mathlib.Omega.{arith}
 use lib.IntN.{ℤ, pos, negsuc, predℤ, natAbs, _-ℤ_, _+ℤ_, -ℤ-one}
 use lib.Dec.{leb, ltb}
@@ -12,13 +12,14 @@ use lib.Ieee.{Float, nan, lt}
 use Rattle.base.specs.Whole.{toNat, maxZ}
 use Rattle.base.specs.Loop.{on, out}
 use Rattle.base.specs.Floats.{_⊖_}
-use Rattle.base.specs.Words.{Edges, times, timesAt}
+use Rattle.base.specs.Words.{Edges, times, timesAt, edgeQuiet}
 use Rattle.base.specs.declared.Times.{Times}
 use Rattle.base.proofs.Loops.{Holds, back-holds, each-keeps, each-holds}
 use Rattle.js.specs.Js.{jsMin}
 use Rattle.frames.specs.Frames.{frameAt, frameCeil, frameSeconds}
 use Rattle.envelope.specs.Levels.{loud}
-use Rattle.onsets.specs.Onsets.{edgeQuiet, maxBack, pause, Onset, backTurn, onsetFrame, onsetOf, prevEnd, onsetTurn, snapOnsets}
+use Rattle.onsets.proofs.Starts.{end-stays}
+use Rattle.onsets.specs.Onsets.{maxBack, pause, Onset, backTurn, onsetFrame, onsetOf, prevEnd, onsetTurn, snapOnsets}
 use Rattle.bounds.specs.Bounds.{Under, EdgesUnder}
 use Rattle.bounds.proofs.Rounding.{under-more, min-under}
 use Rattle.bounds.proofs.Seconds.{seconds-under, frame-size}
@@ -75,14 +76,6 @@ module _ (row : List Bool) (b : ℕ) (B : b < 2 ^ 39) where
       go true = more
       go false = min-under (b + 1) (w .start) (frameSeconds found) more (seconds-under (b + 1) found (omega arith) (omega (arith, small, frame-size b (w .start) (omega arith) h)))
 
-  end-stays : (i : ℕ) (prevEnd : Float) (w : Times) → onsetOf row i prevEnd w .end ≡ w .end
-  unfolding onsetOf
-  end-stays i prevEnd w = go (ltb 0 i && lt (w .start ⊖ prevEnd) pause) _
-    where
-      go : (t : Bool) (s : Float) → cond t w (times s (w .end)) .end ≡ w .end
-      go true s = refl
-      go false s = refl
-
   -- ---- before turn i the starts from i on are as they were
   record Before (i : ℕ) (es : Edges) : Type 0 where
     starts : (j : ℕ) → j < length (es .starts) → (i ≤ j → Under b (getD (es .starts) j nan)) × Under (b + 1) (getD (es .starts) j nan)
@@ -97,7 +90,7 @@ module _ (row : List Bool) (b : ℕ) (B : b < 2 ^ 39) where
         (λ l. ((λ p. absurd (omega arith)), onset-under i (prevEnd (es .ends) i) (timesAt es i) (h .starts i l .0 (omega arith))));
     ends =
         set-under (b + 1) (es .ends) i (onsetOf row i (prevEnd (es .ends) i) (timesAt es i) .end) (h .ends)
-        (λ l. subst (Under (b + 1)) (sym (end-stays i (prevEnd (es .ends) i) (timesAt es i))) (h .ends i l));
+        (λ l. subst (Under (b + 1)) (sym (end-stays row i (prevEnd (es .ends) i) (timesAt es i))) (h .ends i l));
   }
 
   -- ---- all words

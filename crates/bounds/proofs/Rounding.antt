@@ -6,9 +6,9 @@ use mathlib.Core.Path.{_≡_, refl}
 use native.Mathlib.Nat.{mul-pos, mul-le-mul-right}
 use native.Mathlib.Omega.{arith}
 use lib.Dec.{ltb, lit<, lit≤}
-use lib.Ieee.{Float, nan, inf, fin, binary64, up, down, round, sum, add, neg, sub, isNan}
+use lib.Ieee.{Float, nan, inf, fin, binary64, up, down, round, sum, add, isNan}
 use lib.Ieee.Fits.{down-pos}
-use Rattle.base.specs.Floats.{_⊕_, _⊖_}
+use Rattle.base.specs.Floats.{_⊕_}
 use Rattle.base.proofs.Most.{Most, round-most, held}
 use Rattle.js.specs.Js.{under, jsMin, jsMax}
 use Rattle.bounds.specs.Bounds.{Under}
@@ -62,7 +62,7 @@ module _ (a b c n : ℕ) (C : 0 < c) (N : n < 2 ^ 53) where
   sum-under false true l = sum-unlike false (omega arith) (omega arith)
   sum-under false false l = sum-like false l
 
--- ---- sums and differences
+-- ---- sums
 pub add-under : (a b : ℕ) (x y : Float) → a + b < 2 ^ 53 → Under a x → Under b y → Under (a + b) (x ⊕ y)
 unfolding add
 add-under a b nan y l h k = absurd h
@@ -76,16 +76,6 @@ add-under a b (fin s m e) (fin t n d) l h k =
     cross X E Y D h k =
         let p : X * 64 * D ≤ a * E * D = mul-le-mul-right D h in
         let q : Y * 64 * E ≤ b * D * E = mul-le-mul-right E k in omega arith
-
-neg-under : (b : ℕ) (x : Float) → Under b x → Under b (neg x)
-unfolding neg
-neg-under b nan h = h
-neg-under b (inf s) h = h
-neg-under b (fin s m e) h = h
-
-pub sub-under : (a b : ℕ) (x y : Float) → a + b < 2 ^ 53 → Under a x → Under b y → Under (a + b) (x ⊖ y)
-unfolding sub
-sub-under a b x y l h k = add-under a b x (neg y) l h (neg-under b y k)
 
 -- ---- the larger and the smaller of two is one of the two
 module _ (b : ℕ) where

@@ -12,7 +12,7 @@ use lib.ListN.{length, getD, set, length-set}
 use lib.Seq.{getD-set-same, getD-set-other}
 use lib.Ieee.{Float, nan}
 use Rattle.envelope.specs.Levels.{loud}
-use Rattle.tails.proofs.Turns as tails
+use Rattle.envelope.proofs.Scan as scan
 use Rattle.bounds.specs.Bounds.{Under}
 
 -- ---- of a list in which element i becomes v: P of each other element, and of v where there is an element i
@@ -39,5 +39,5 @@ set-under b xs i v h k = set-each (λ (j : ℕ) (x : Float). Under b x) xs i v (
 
 -- ---- a loud frame is one of the row's
 pub loud-in : (row : List Bool) (k : ℤ) → loud row k ≡ true → natAbs k < length row
-loud-in row (pos j) h = tails.loud-in row j h
+loud-in row (pos j) h = scan.loud-in row j h
 loud-in row (negsuc j) h = absurd (true≢false (sym h))

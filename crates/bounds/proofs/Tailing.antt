@@ -13,13 +13,13 @@ use lib.Ieee.{Float, nan, le}
 use Rattle.base.specs.Whole.{toNat}
 use Rattle.base.specs.Loop.{on, run}
 use Rattle.base.specs.Floats.{_⊖_, _⊗_, num}
-use Rattle.base.specs.Words.{Edges, timesAt}
+use Rattle.base.specs.Words.{Edges, timesAt, edgeQuiet, loose}
 use Rattle.base.specs.declared.Times.{Times}
 use Rattle.base.proofs.Loops.{run-out, each-keeps, each-holds}
 use Rattle.js.specs.Js.{jsMax}
 use Rattle.frames.specs.Frames.{frameAt, frameSeconds}
 use Rattle.envelope.specs.Levels.{loud}
-use Rattle.tails.specs.Tails.{loose, minLetter, edgeQuiet, loudTurn, pastLoud, Quiet, pastQuiet, loudBefore, ownSound, tailOf, handBack, tailTurn, handBackTails}
+use Rattle.tails.specs.Tails.{minLetter, loudTurn, pastLoud, Quiet, pastQuiet, loudBefore, ownSound, tailOf, handBack, tailTurn, handBackTails}
 use Rattle.tails.specs.declared.Tail.{Tail}
 use Rattle.tails.specs.declared.Tail.the-variants.{Keeps, Hands}
 use Rattle.bounds.specs.Bounds.{Under, EdgesUnder}

@@ -14,7 +14,7 @@ use Rattle.roots.specs.Sqrt.{sqrt, roundRoot, nearRoot, isqrt, rootDigits}
 use Rattle.envelope.specs.Levels.{hop, squares, level, quietRow}
 use Rattle.pieces.specs.Pieces.{cut, searched, searchTurn}
 use Rattle.loops.specs.Loops.{equal, same, copiesEnd, isLoop, loopTurn, pass, collapseLoops}
-use Rattle.ends.specs.Ends.{nextStart, isPair, pairStart, pairEdge, pairOf, lastLoud, soundEnd, reach, orDuration, trimmed, endOf, endTurn, snapEnds}
+use Rattle.ends.specs.Ends.{nextStart, isPair, pairStart, pairEdge, pairOf, lastLoud, soundEnd, reach, orDuration, trimmed, endOf, setPair, endTurn, snapEnds}
 use Rattle.cases.specs.Table.{Table, double, quietFrames, keysLeft}
 
 level-of-half : level (replicate 160 (double false 1 2)) ≡ double false 1 2
@@ -51,7 +51,7 @@ runs-of-two = refl
 
 edge-shared : snapEnds (replicate 30 false) (double false 30 100) (3 ∷ 3 ∷ []) (edges (double false 10 100 ∷ double false 13 100 ∷ []) (double false 12 100 ∷ double false 20 100 ∷ []))
     ≡ edges (double false 10 100 ∷ double false 16 100 ∷ []) (double false 16 100 ∷ double false 20 100 ∷ [])
-unfolding snapEnds endTurn nextStart isPair pairOf pairStart pairEdge endOf reach orDuration trimmed soundEnd lastLoud each run frameAt floorI64 frameSeconds jsMin jsMax jsToFixed nearestUp under isNan add sub neg sum mul div lt le eq ofInt round size span climb units odd ofBits ofFields trailingZeros
+unfolding snapEnds endTurn setPair nextStart isPair pairOf pairStart pairEdge endOf reach orDuration trimmed soundEnd lastLoud each run frameAt floorI64 frameSeconds jsMin jsMax jsToFixed nearestUp under isNan add sub neg sum mul div lt le eq ofInt round size span climb units odd ofBits ofFields trailingZeros
 edge-shared = refl
 
 pub table : Table

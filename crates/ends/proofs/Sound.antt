@@ -11,6 +11,7 @@ use lib.Dec.{leb, eqb}
 use lib.IntN.{ℤ, pos, negsuc, sucℤ, predℤ, suc-pred, pred-suc}
 use lib.ListN.{length}
 use lib.Ieee.{Float}
+use Rattle.base.specs.Words.{edgeQuiet}
 use Rattle.base.specs.Whole.{toNat, minZ}
 use Rattle.base.specs.Loop.{on, out, run}
 use Rattle.base.specs.declared.Times.{Times}
@@ -23,7 +24,7 @@ use Rattle.frames.proofs.Indices.{minZ-index}
 use Rattle.envelope.specs.Levels.{loud, loudRow}
 use Rattle.envelope.specs.Parts.{Met, Past}
 use Rattle.envelope.proofs.Scan.{length-row}
-use Rattle.ends.specs.Ends.{Last, lastTurn, lastLoud, edgeQuiet, soundEnd, reach, orDuration, trimmed, endOf}
+use Rattle.ends.specs.Ends.{Last, lastTurn, lastLoud, soundEnd, reach, orDuration, trimmed, endOf}
 use Rattle.ends.specs.Parts.{seen, soundOn}
 
 and-false : (a : Bool) → (a && false) ≡ false

@@ -9,15 +9,15 @@ use lib.ListN.{getD, length, set}
 use lib.Seq.{set-getD}
 use lib.Ieee.{Float, nan, lt}
 use Rattle.base.specs.Floats.{_⊕_, _⊖_, _⊗_, _⊘_, num}
-use Rattle.base.specs.Words.{Edges, edges, times}
+use Rattle.base.specs.Words.{Edges, edges, times, loose}
 use Rattle.base.specs.declared.Times.{Times}
 use Rattle.base.specs.declared.NextStart.{NextStart}
 use Rattle.base.specs.declared.NextStart.the-variants.{Starts, NoNext}
 use Rattle.base.specs.declared.SoundEnd.{SoundEnd}
 use Rattle.base.specs.declared.SoundEnd.the-variants.{Ends, NoSound}
 use Rattle.js.specs.Js.{jsMin, jsMax, jsToFixed}
-use Rattle.ends.specs.Ends.{noLength, pairSpan, loose, nextStart, soon, isPair, reach, orDuration, trimmed, pairStart, pairEdge, pairOf, endOf, endTurn}
-use Rattle.ends.specs.Parts.{isLoose, setPair}
+use Rattle.ends.specs.Ends.{noLength, pairSpan, nextStart, soon, isPair, reach, orDuration, trimmed, pairStart, pairEdge, pairOf, endOf, endTurn, setPair}
+use Rattle.ends.specs.Parts.{isLoose}
 
 -- ---- the next word
 module _ (next : NextStart) where

@@ -18,7 +18,7 @@ use Rattle.checks.specs.Limits.{any, timeOf}
 use Rattle.checks.specs.Order.{inOrder, chain}
 use Rattle.checks.specs.Calls.{uneven, ofWords, withLevels, withTime, timedRule, output}
 use Rattle.checks.specs.declared.Answer.the-variants.{Accepted, Refused}
-use Rattle.ends.specs.Ends.{nextStart, isPair, pairStart, pairEdge, pairOf, lastLoud, soundEnd, reach, orDuration, trimmed, endOf, endTurn, snapEnds, endsCall}
+use Rattle.ends.specs.Ends.{nextStart, isPair, pairStart, pairEdge, pairOf, lastLoud, soundEnd, reach, orDuration, trimmed, endOf, setPair, endTurn, snapEnds, endsCall}
 
 -- so many hundredths of a second
 abbrev time : ℕ → Float
@@ -46,7 +46,7 @@ ends-with-its-sound = refl
 -- two words with no length, of 3 units each: the first starts where the sound rises, and they share its span up to the second's end
 shares-an-edge : let pair : Float → Float → Float → Words = (λ s e n. words (s ∷ n ∷ []) (e ∷ time 14 ∷ []) (4 ∷ 4 ∷ []) (3 ∷ 3 ∷ []) (1 ∷ 2 ∷ []))
     in endsCall (pair (time 0) (time 1) (time 1)) heard one 4800 (time 30) ≡ output Accepted (pair (time 2) (time 8) (time 8))
-unfolding endsCall timedRule chain inOrder ofWords withLevels withTime uneven first any timeOf loudRow snapEnds endTurn nextStart isPair pairOf pairStart pairEdge endOf reach orDuration trimmed soundEnd lastLoud each run frameAt floorI64 frameSeconds jsMin jsMax jsToFixed nearestUp under isNan add sub neg sum mul div lt le eq ofInt round size span climb units odd ofBits ofFields trailingZeros
+unfolding endsCall timedRule chain inOrder ofWords withLevels withTime uneven first any timeOf loudRow snapEnds endTurn setPair nextStart isPair pairOf pairStart pairEdge endOf reach orDuration trimmed soundEnd lastLoud each run frameAt floorI64 frameSeconds jsMin jsMax jsToFixed nearestUp under isNan add sub neg sum mul div lt le eq ofInt round size span climb units odd ofBits ofFields trailingZeros
 shares-an-edge = refl
 
 refuses-3 : let ws = words (time 0 ∷ []) [] [] [] [] in endsCall ws heard one 4800 (time 30) ≡ output (Refused Lengths) ws

@@ -10,7 +10,7 @@ use lib.Ieee.{Float, nan, binary64, ofBits, lt}
 use Rattle.base.specs.Whole.{minZ}
 use Rattle.base.specs.Loop.{Turn, on, out, each, range}
 use Rattle.base.specs.Floats.{_⊕_, _⊖_, _⊗_, _⊘_, num}
-use Rattle.base.specs.Words.{Words, Edges, edges, times, timesAt, setTimes}
+use Rattle.base.specs.Words.{Words, Edges, edges, times, timesAt, setTimes, edgeQuiet, loose}
 use Rattle.base.specs.declared.Times.{Times}
 use Rattle.base.specs.declared.NextStart.{NextStart}
 use Rattle.base.specs.declared.NextStart.the-variants.{Starts, NoNext}
@@ -21,21 +21,13 @@ use Rattle.frames.specs.Frames.{frameAt, frameSeconds}
 use Rattle.envelope.specs.Levels.{loud, loudRow}
 use Rattle.checks.specs.Calls.{timedRule, Output, moved}
 
--- ---- NO_LENGTH, 0.06 s: a shorter word has no length.
+-- ---- NO_LENGTH, 0.06 s: a shorter word is too short to be one.
 abbrev pub noLength : Float
 noLength = ofBits binary64 0x3fae_b851_eb85_1eb8
 
--- ---- PAIR_SPAN, 0.12 s: the least span that two words with no length share.
+-- ---- PAIR_SPAN, 0.12 s: what two words that share an edge have between them at the least.
 abbrev pub pairSpan : Float
 pairSpan = ofBits binary64 0x3fbe_b851_eb85_1eb8
-
--- ---- LOOSE, 0.05 s: an end this far past its sound is loose.
-abbrev pub loose : Float
-loose = ofBits binary64 0x3fa9_9999_9999_999a
-
--- ---- EDGE_QUIET: this many silent frames in a row, 80 ms, mark a word's edge.
-abbrev pub edgeQuiet : ℕ
-edgeQuiet = 8
 
 -- ---- tail.first_mut(), next.map(|n| n.start): where the word after word i starts, if there is one.
 unfoldable pub nextStart : List Float → ℕ → NextStart
@@ -62,7 +54,7 @@ pairEdge start nextEnd own other =
     let share = num own ⊘ (num own ⊕ num other) in
     jsToFixed (start ⊕ (jsMax nextEnd (start ⊕ pairSpan) ⊖ start) ⊗ share)
 
--- ---- Two words with no length: where the first starts, and the edge that they share.
+-- ---- Two words that share an edge: where the first starts, and the edge.
 unfoldable pub pairOf : List Bool → Times → Float → ℕ → ℕ → Times
 pairOf row w nextEnd own other = let start = pairStart row (w .start) nextEnd in times start (pairEdge start nextEnd own other)
 
@@ -106,14 +98,17 @@ endOf row duration next w =
     let bound = minZ (pos (length row)) (frameAt (reach next duration (w .start))) in
     trimmed (soundEnd (lastLoud edgeQuiet row (frameAt (w .start)) bound)) (orDuration next duration) w
 
--- ---- w is word i, and n is word i + 1, where there is one: w.end = edge; n.start = edge;
+-- ---- w.end = edge; n.start = edge;
+unfoldable pub setPair : Edges → ℕ → Times → Edges
+setPair es i t = edges (set (set (es .starts) i (t .start)) (i + 1) (t .end)) (set (es .ends) i (t .end))
+
+-- ---- w is word i, and n is word i + 1, where there is one.
 unfoldable pub endTurn : List Bool → Float → List ℕ → ℕ → Edges → Edges
 endTurn row duration units i es =
     let w = timesAt es i in
     let next = nextStart (es .starts) i in
     cond (isPair next w)
-    (let t = pairOf row w (timesAt es (i + 1) .end) (getD units i 0) (getD units (i + 1) 0) in
-    edges (set (set (es .starts) i (t .start)) (i + 1) (t .end)) (set (es .ends) i (t .end)))
+    (setPair es i (pairOf row w (timesAt es (i + 1) .end) (getD units i 0) (getD units (i + 1) 0)))
     (setTimes es i (endOf row duration next w))
 
 -- ---- snap_ends: for i in 0..words.len()

@@ -1,4 +1,4 @@
-// Words end where their sound stops (onsets.rs, snap_ends).
+// Loose ends, moved to where the sound stops (onsets.rs, snap_ends).
 ghost use mathlib.Core.Path.{_≡_};
 ghost use Prim.Native.Nat.{_+_, _<_, _≤_, _^_};
 ghost use lib.IntN.{pos, sucℤ, predℤ};
@@ -6,8 +6,8 @@ ghost use lib.ListN.{length};
 ghost use Rattle.base.specs.Words.{words, edges};
 ghost use Rattle.envelope.specs.Levels.{loudRow};
 ghost use Rattle.checks.specs.Calls.{output};
-ghost use Rattle.ends.specs.Ends.{nextStart, soon as soonOf, isPair, pairStart, pairEdge, pairOf, lastLoud, soundEnd, reach as reachOf, orDuration, trimmed, endOf, endTurn, snapEnds, endsCall};
-ghost use Rattle.ends.specs.Parts.{isLoose, setPair, soundOn};
+ghost use Rattle.ends.specs.Ends.{nextStart, soon as soonOf, isPair, pairStart, pairEdge, pairOf, lastLoud, soundEnd, reach as reachOf, orDuration, trimmed, endOf, endTurn, snapEnds, endsCall, setPair};
+ghost use Rattle.ends.specs.Parts.{isLoose, soundOn};
 ghost use Rattle.base.specs.declared.SoundEnd.the-variants.{Ends};
 use base::NextStart;
 use base::Rule;
@@ -15,13 +15,13 @@ use base::SoundEnd;
 use base::Times;
 use checks::Answer;
 
-// A word shorter than this, in seconds, has no length.
+// A shorter word, in seconds, is too short to be one.
 const NO_LENGTH: f64 = 0.06;
-// The least span, in seconds, that two words with no length share.
+// What a word that is too short and the next have between them, in seconds, at the least.
 const PAIR_SPAN: f64 = 0.12;
-// An end this far past its sound, in seconds, is loose.
+// An end that lies further past its sound, in seconds, is loose.
 const LOOSE: f64 = 0.05;
-// This many silent frames in a row, 80 ms, mark a word's edge.
+// So many quiet frames in a row, 80 ms, end a sound.
 const EDGE_QUIET: usize = 8;
 
 // The frame past the last loud one, of a sound that was met before frame `from`, before `edge` quiet ones: looks back from the last frame that
@@ -63,7 +63,7 @@ pub fn sound_end(past: usize) -> SoundEnd
     SoundEnd::Ends(frames::index_seconds(past))
 }
 
-// An end far past its sound, or a word with no length.
+// An end that is loose, or a word that is too short.
 fn is_loose(sound: f64, w: Times) -> bool
     ensures { λ r. ⌜ r ≡ isLoose sound w ⌝ }
 {
@@ -141,7 +141,7 @@ pub fn next_start(starts: &[f64], i: usize) -> NextStart
     NextStart::NoNext
 }
 
-// Whether there is a next word, and it starts with this one.
+// Whether there is a next word, and it starts less than 0.06 s after this one, or before it.
 fn soon(next: NextStart, w: Times) -> bool
     ensures { λ r. ⌜ r ≡ soonOf next w ⌝ }
 {
@@ -151,7 +151,7 @@ fn soon(next: NextStart, w: Times) -> bool
     }
 }
 
-// A word with no length, and a next word that starts with it.
+// A word that is too short, and a next word so near that the two share an edge.
 fn is_pair(next: NextStart, w: Times) -> bool
     ensures { λ r. ⌜ r ≡ isPair next w ⌝ }
 {
@@ -161,7 +161,7 @@ fn is_pair(next: NextStart, w: Times) -> bool
     false
 }
 
-// Where the first of two words with no length starts: where the sound rises before the next word's end.
+// Where the first of two words that share an edge starts: at the first loud frame up to the next word's end, if that is later.
 fn pair_start(levels: &[f64], floor: f64, start: f64, next_end: f64) -> f64
     requires { ⌜ length (now levels) ≤ 2 ^ 40 ⌝ }
     ensures { λ r. ⌜ r ≡ pairStart (loudRow floor (now (levels .entry))) start «next_end» ⌝ }
@@ -175,7 +175,7 @@ fn pair_start(levels: &[f64], floor: f64, start: f64, next_end: f64) -> f64
     start
 }
 
-// The edge that two words with no length share, by their units, to three decimals.
+// The edge that two words share, by their units, to three decimals.
 fn pair_edge(start: f64, next_end: f64, own: u32, other: u32) -> f64
     ensures { λ r. ⌜ r ≡ pairEdge start «next_end» own other ⌝ }
 {
@@ -183,7 +183,7 @@ fn pair_edge(start: f64, next_end: f64, own: u32, other: u32) -> f64
     js::js_to_fixed(start + (js::js_max(next_end, start + PAIR_SPAN) - start) * share)
 }
 
-// The times of the first of two words with no length.
+// The times of the first of two words that share an edge.
 fn pair_of(levels: &[f64], floor: f64, w: Times, next_end: f64, own: u32, other: u32) -> Times
     requires { ⌜ length (now levels) ≤ 2 ^ 40 ⌝ }
     ensures { λ r. ⌜ r ≡ pairOf (loudRow floor (now (levels .entry))) w «next_end» own other ⌝ }
@@ -232,7 +232,7 @@ fn snap_end(
     ends[i] = cut.end;
 }
 
-// Ends each word where its sound stops (onsets.rs, snap_ends); nothing is checked.
+// Moves each loose end to where the sound stops (onsets.rs, snap_ends); nothing is checked.
 pub fn move_ends(
     starts: &mut [f64],
     ends: &mut [f64],
@@ -251,7 +251,7 @@ pub fn move_ends(
     }
 }
 
-// Ends words where their sound stops, for words, levels and a duration within the limits (onsets.rs, snap_ends).
+// Moves loose ends to where the sound stops, of words, levels and a duration within the limits (onsets.rs, snap_ends).
 pub fn snap_ends(
     starts: &mut [f64],
     ends: &mut [f64],

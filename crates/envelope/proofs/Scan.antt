@@ -1,8 +1,8 @@
 -- A search for a loud frame, or for one that is not, passes one frame more; and a row as long as its levels. Assumes nothing.
 use Prim.Native.Nat.{ℕ, _+_, _-_, _<_, _≤_}
-use mathlib.Core.Bool.{Bool, true, false, not, Bool·beq}
+use mathlib.Core.Bool.{Bool, true, false, not, Bool·beq, true≢false}
 use mathlib.Core.List.{List}
-use mathlib.Core.Path.{_≡_, refl, sym}
+use mathlib.Core.Path.{_≡_, refl, sym, _∙_}
 use native.Mathlib.Omega.{arith}
 use borrow.Author.Tests.{ltb-true, ltb-false}
 use lib.Dec.{ltb}
@@ -41,6 +41,13 @@ one-less row hi k s a e j p q = go (ltb j k) refl where
 -- ---- a frame past the row is not loud
 pub loud-past : (row : List Bool) (k : ℕ) → length row ≤ k → loud row (pos k) ≡ false
 loud-past row k h = List·getD-eq-default row false h
+
+-- so a loud frame lies in the row
+pub loud-in : (row : List Bool) (k : ℕ) → loud row (pos k) ≡ true → k < length row
+loud-in row k h = go (ltb k (length row)) refl where
+  go : (t : Bool) → ltb k (length row) ≡ t → k < length row
+  go true e = ltb-true k (length row) e
+  go false e = absurd (true≢false (sym h ∙ loud-past row k (ltb-false k (length row) e)))
 
 pub length-row : (floor : Float) (levels : List Float) → length (loudRow floor levels) ≡ length levels
 unfolding loudRow

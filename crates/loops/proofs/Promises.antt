@@ -43,16 +43,16 @@ module _ (ws : Words) where
     go (Breaks other) h = cc
 
   -- ---- No test applies exactly when the call is accepted, with the words left in their places, their count, and whether a loop was found.
-  pub accepted-exactly : None (inOrder (ofWords ws)) ↔ (collapseCall ws ≡ accepted (collapseLoops ws) (count ws))
+  pub accepted-none : None (inOrder (ofWords ws)) ↔ (collapseCall ws ≡ accepted (collapseLoops ws) (count ws))
   unfolding chain
-  accepted-exactly = (
+  accepted-none = (
     λ n. call-by (none-fine (inOrder (ofWords ws)) n),
     λ e. fine-none (inOrder (ofWords ws)) (rule-accepted _ _ (ap (λ (o : Output). o .answer) e)),
   )
 
   -- ---- That is when all is within the limits.
-  pub within-exactly : WordsWithin ws ↔ (collapseCall ws ≡ accepted (collapseLoops ws) (count ws))
-  within-exactly = (λ w. accepted-exactly .0 (words-exactly ws .0 w), λ e. words-exactly ws .1 (accepted-exactly .1 e))
+  pub accepted-exactly : WordsWithin ws ↔ (collapseCall ws ≡ accepted (collapseLoops ws) (count ws))
+  accepted-exactly = (λ w. accepted-none .0 (words-exactly ws .0 w), λ e. words-exactly ws .1 (accepted-none .1 e))
 
   -- ---- And whatever is answered as accepted is that: the count is that of the words left and never more than before, and the yes is said exactly
   -- when it is smaller.
@@ -82,5 +82,5 @@ module _ (ws : Words) where
   )
 
   -- ---- A refusal changes nothing.
-  pub refused-keeps : (why : Refusal) → collapseCall ws .answer ≡ Refused why → collapseCall ws .words ≡ ws
-  refused-keeps why h = ap (λ (o : Output). o .words) (call-by (rule-refused why h))
+  pub refusal-keeps : (why : Refusal) → collapseCall ws .answer ≡ Refused why → collapseCall ws .words ≡ ws
+  refusal-keeps why h = ap (λ (o : Output). o .words) (call-by (rule-refused why h))

@@ -1,4 +1,4 @@
--- loops.rs, and document 01's "Loops": a run of 1 to 4 words repeated three or more times in a row keeps its first copy. Assumes nothing.
+-- loops.rs, and document 01's "Loops": "three or more equal neighbouring runs of n keys become one", for n = 1 to 4. Assumes nothing.
 use Prim.Native.Nat.{ℕ, _+_, _-_, _*_}
 use mathlib.Core.Bool.{Bool, true, false, cond, _&&_}
 use mathlib.Core.List.{List, [], _∷_, _++_}
@@ -9,7 +9,7 @@ use lib.Ieee.{Float, binary64, ofBits}
 use Rattle.base.specs.Loop.{Turn, on, out, each, run}
 use Rattle.base.specs.Words.{Words, words}
 
--- ---- MAX_RUN, the longest repeated run of words looked for; MIN_COPIES, how many copies in a row, or more, are a loop.
+-- ---- MAX_RUN: n goes up to 4. MIN_COPIES: three equal runs are a loop.
 abbrev pub maxRun : ℕ
 maxRun = 4
 

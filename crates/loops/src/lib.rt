@@ -9,9 +9,9 @@ ghost use Rattle.loops.specs.Parts.{OneLength, firstWords, moved, onlyKe
 use base::Refusal;
 use base::Rule;
 
-// The longest repeated run of words looked for.
+// Runs of 1 to so many words are looked for.
 const MAX_RUN: usize = 4;
-// A run repeated this many times in a row, or more, is a loop.
+// So many equal runs side by side, or more, are a loop.
 const MIN_COPIES: usize = 3;
 
 // What the call answers: the words left and whether a loop was found, or why it refuses.
@@ -220,7 +220,7 @@ fn accept(
     Answer::Accepted(left.count, left.found)
 }
 
-// The words without their loops, each at its first copy (loops.rs, collapse_loops).
+// Collapses loops, of words within the limits: the first copy of each stays (loops.rs, collapse_loops).
 pub fn collapse_loops(
     starts: &mut [f64],
     ends: &mut [f64],

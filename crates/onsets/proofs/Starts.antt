@@ -15,14 +15,14 @@ use lib.Ieee.{Float, nan, binary64, ofBits, lt}
 use Rattle.base.specs.Whole.{toNat, maxZ}
 use Rattle.base.specs.Loop.{on, out, runBack}
 use Rattle.base.specs.Floats.{_⊖_}
-use Rattle.base.specs.Words.{edges, times}
+use Rattle.base.specs.Words.{edges, times, edgeQuiet}
 use Rattle.base.specs.declared.Times.{Times}
 use Rattle.base.proofs.Loops.{back-out, back-next, back-stop, back-done, back-nat, max-nat, sub-nat}
 use Rattle.js.specs.Js.{jsMin}
 use Rattle.frames.specs.Frames.{frameAt, frameCeil, frameSeconds}
 use Rattle.envelope.specs.Levels.{loud}
 use Rattle.envelope.specs.Parts.{Met}
-use Rattle.onsets.specs.Onsets.{edgeQuiet, pause, Onset, backTurn, onsetFrame, onsetOf, prevEnd, onsetTurn}
+use Rattle.onsets.specs.Onsets.{pause, Onset, backTurn, onsetFrame, onsetOf, prevEnd, onsetTurn}
 use Rattle.onsets.specs.Parts.{goesOn, onsetSeconds}
 
 -- the loop's state above frame k
@@ -213,7 +213,7 @@ module _ (ends : List Float) (i : ℕ) where
   prev-first h = rw (le-ltb 0 i h)
 
 -- the end of a word stays
-end-stays : (row : List Bool) (i : ℕ) (before : Float) (w : Times) → onsetOf row i before w .end ≡ w .end
+pub end-stays : (row : List Bool) (i : ℕ) (before : Float) (w : Times) → onsetOf row i before w .end ≡ w .end
 unfolding onsetOf goesOn
 end-stays row i before w = go (goesOn i before (w .start)) (times (jsMin (w .start) (frameSeconds (onsetFrame row (frameAt (w .start)) (maxZ (frameCeil before) (frameAt (w .start) -ℤ pos 60))))) (w .end)) refl where
   go : (b : Bool) (t : Times) → t .end ≡ w .end → cond b w t .end ≡ w .end

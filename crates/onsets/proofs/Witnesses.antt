@@ -43,6 +43,15 @@ walks-back : onsetsCall (word 4 (time 25) (time 30)) heard one 4800 ≡ output A
 unfolding onsetsCall soundRule chain inOrder ofWords withLevels uneven first any timeOf loudRow snapOnsets onsetTurn onsetOf onsetFrame prevEnd each runBack frameAt frameCeil floorI64 ceilI64 frameSeconds jsMin under isNan add sub neg sum mul div lt le eq ofInt round size span climb units odd ofBits ofFields trailingZeros
 walks-back = refl
 
+-- three words: the second starts 0.15 s after the first ends, so it walks back, and no further than there; the third starts sooner after the
+-- second, and stays
+abbrev three : Float → Words
+three second = words (time 0 ∷ second ∷ time 28 ∷ []) (time 10 ∷ time 27 ∷ time 30 ∷ []) (4 ∷ 4 ∷ 4 ∷ []) (9 ∷ 9 ∷ 9 ∷ []) (1 ∷ 2 ∷ 3 ∷ [])
+
+after-a-pause : onsetsCall (three (time 25)) (replicate 30 two) one 4800 ≡ output Accepted (three (time 10))
+unfolding onsetsCall soundRule chain inOrder ofWords withLevels uneven first any timeOf loudRow snapOnsets onsetTurn onsetOf onsetFrame prevEnd each runBack frameAt frameCeil floorI64 ceilI64 frameSeconds jsMin under isNan add sub neg sum mul div lt le eq ofInt round size span climb units odd ofBits ofFields trailingZeros
+after-a-pause = refl
+
 refuses-3 : let ws = words (time 0 ∷ []) [] [] [] [] in onsetsCall ws heard one 4800 ≡ output (Refused Lengths) ws
 unfolding onsetsCall soundRule chain inOrder ofWords withLevels uneven first
 refuses-3 = refl

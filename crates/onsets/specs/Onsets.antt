@@ -9,24 +9,20 @@ use lib.Ieee.{Float, nan, binary64, ofBits, lt}
 use Rattle.base.specs.Whole.{maxZ}
 use Rattle.base.specs.Loop.{Turn, on, out, each, rangeBack}
 use Rattle.base.specs.Floats.{_⊖_}
-use Rattle.base.specs.Words.{Words, Edges, edges, times, timesAt, setTimes}
+use Rattle.base.specs.Words.{Words, Edges, edges, times, timesAt, setTimes, edgeQuiet}
 use Rattle.base.specs.declared.Times.{Times}
 use Rattle.js.specs.Js.{jsMin}
 use Rattle.frames.specs.Frames.{frameAt, frameCeil, frameSeconds}
 use Rattle.envelope.specs.Levels.{loud, loudRow}
 use Rattle.checks.specs.Calls.{soundRule, Output, moved}
 
--- ---- PAUSE, 0.15 s: a word that starts this long after the word before it ends, or later, follows a pause.
+-- ---- PAUSE, 0.15 s: from here on, what lies between two words is a pause.
 abbrev pub pause : Float
 pause = ofBits binary64 0x3fc3_3333_3333_3333
 
--- ---- MAX_BACK: a start walks back at most this many frames, 0.6 s.
+-- ---- MAX_BACK: so many frames before its own a start may reach.
 abbrev pub maxBack : ℕ
 maxBack = 60
-
--- ---- EDGE_QUIET: this many silent frames in a row, 80 ms, mark a word's edge.
-abbrev pub edgeQuiet : ℕ
-edgeQuiet = 8
 
 -- ---- if env.loud(k) { onset = k; quiet = 0; } else { quiet += 1; if quiet >= EDGE_QUIET { break; } }
 pub record Onset : Type 0 where

@@ -1,4 +1,4 @@
-// Words that follow a pause start where their sound rises (onsets.rs, snap_onsets).
+// Starts after a pause, moved back to where the sound rises (onsets.rs, snap_onsets).
 ghost use mathlib.Core.Path.{_≡_};
 ghost use Prim.Native.Nat.{max, _-_, _≤_};
 ghost use lib.IntN.{pos};
@@ -12,11 +12,11 @@ use base::Rule;
 use base::Times;
 use checks::Answer;
 
-// A word that starts this long after the word before it ends, in seconds, or later, follows a pause.
+// From so many seconds on, what lies between two words is a pause.
 const PAUSE: f64 = 0.15;
-// A start walks back at most this many frames: 0.6 s.
+// So many frames before its own a start may reach.
 const MAX_BACK: usize = 60;
-// This many silent frames in a row, 80 ms, mark a word's edge.
+// So many quiet frames in a row, 80 ms, end the walk back.
 const EDGE_QUIET: usize = 8;
 
 // So many frames before frame f, but not before frame lo.
@@ -32,7 +32,7 @@ fn frames_back(lo: usize, f: usize, back: usize) -> usize
     lo
 }
 
-// The first loud frame from f down to lo, before 8 quiet ones; f for none: looks on from the first frame that may belong to the sound.
+// The earliest loud frame before f that is reached, down to lo, without 8 quiet ones in a row; f where there is none.
 fn onset_back(levels: &[f64], floor: f64, lo: usize, f: usize) -> usize
     ensures { λ r. ⌜ pos r ≡ onsetFrame (loudRow floor (now (levels .entry))) (pos f) (pos lo) ⌝ }
 {
@@ -96,7 +96,7 @@ fn prev_end_at(ends: &[f64], i: usize) -> f64
     0.0
 }
 
-// Starts each word that follows a pause where its sound rises (onsets.rs, snap_onsets); nothing is checked.
+// Moves the start of each word after a pause back to where its sound rises (onsets.rs, snap_onsets); nothing is checked.
 pub fn move_onsets(starts: &mut [f64], ends: &[f64], levels: &[f64], floor: f64)
     requires { ⌜ length (now ends) ≡ length (now starts) ⌝ }
     ensures { λ _. ⌜ edges (now (starts .exit)) (now (ends .entry)) ≡ snapOnsets (loudRow floor (now (levels .entry))) (edges (now (starts .entry)) (now (ends .entry))) ⌝ }
@@ -113,7 +113,7 @@ pub fn move_onsets(starts: &mut [f64], ends: &[f64], levels: &[f64], floor: f64)
     }
 }
 
-// Starts words where their sound rises, for words and levels within the limits (onsets.rs, snap_onsets).
+// Moves starts back to where the sound rises, of words and levels within the limits (onsets.rs, snap_onsets).
 pub fn snap_onsets(
     starts: &mut [f64],
     ends: &[f64],

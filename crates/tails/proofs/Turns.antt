@@ -13,15 +13,15 @@ use lib.ListN.{length, getD, set}
 use lib.Ieee.{Float, nan, le}
 use Rattle.base.specs.Whole.{toNat}
 use Rattle.base.specs.Floats.{_⊖_, _⊗_, num}
-use Rattle.base.specs.Words.{Edges, edges, times}
+use Rattle.base.specs.Words.{Edges, edges, times, edgeQuiet, loose}
 use Rattle.base.specs.declared.Times.{Times}
 use Rattle.base.proofs.Loops.{sub-pos}
 use Rattle.js.specs.Js.{jsMax}
 use Rattle.frames.specs.Frames.{frameAt, frameSeconds}
 use Rattle.envelope.specs.Levels.{loud, loudRow}
 use Rattle.envelope.specs.Parts.{Met}
-use Rattle.envelope.proofs.Scan.{loud-past, length-row}
-use Rattle.tails.specs.Tails.{loose, minLetter, edgeQuiet, pastLoud, pastQuiet, ownSound, tailOf, handBack, tailTurn}
+use Rattle.envelope.proofs.Scan.{loud-in, length-row}
+use Rattle.tails.specs.Tails.{minLetter, pastLoud, pastQuiet, ownSound, tailOf, handBack, tailTurn}
 use Rattle.tails.specs.Parts.{across, lands, below, three}
 use Rattle.tails.specs.declared.Tail.{Tail}
 use Rattle.tails.specs.declared.Tail.the-variants.{Keeps, Hands}
@@ -51,12 +51,6 @@ nat-pos (negsuc m) n e h = absurd (omega arith)
 clash : {A : Type 0} {b : Bool} → b ≡ true → b ≡ false → A
 clash p q = absurd (let z : _≡_ {A = ℕ} 0 1 = cc in omega arith)
 
-pub loud-in : (row : List Bool) (k : ℕ) → loud row (pos k) ≡ true → k < length row
-loud-in row k h = go (ltb k (length row)) refl where
-  go : (t : Bool) → ltb k (length row) ≡ t → k < length row
-  go true e = ltb-true k (length row) e
-  go false e = clash h (loud-past row k (ltb-false k (length row) e))
-
 three-in : (row : List Bool) (hi k : ℕ) → three row hi k ≡ true → k < hi
 unfolding three below
 three-in row hi k h = go (ltb k hi) refl where
@@ -80,19 +74,17 @@ far-inside f hi t h l = omega arith
 up-to : (t hi : ℕ) → t ≤ hi → t + (hi - t) ≡ hi
 up-to t hi h = omega arith
 
+-- the larger of two is below what both are below
+max-most : (a b d n : ℕ) → a ≤ max b d → b ≤ n → d ≤ n → a ≤ n
+max-most a b d n h p q = omega arith
+
 -- the frames of a sound that goes on beyond that
 frames-far : (f t r n : ℕ) → 5001 ≤ t - f → t ≤ r → r ≤ n → (5001 ≤ r - f) × (r - f ≤ n)
 frames-far f t r n l a b = (omega arith, omega arith)
 
-most : (f hi r n : ℕ) → r ≤ max f hi → f ≤ n → hi ≤ n → r ≤ n
-most f hi r n h a b = omega arith
-
 -- where the code's searches end, in a number that can be counted on from
 min-most : (a b d n : ℕ) → a ≡ min b d → b ≤ n → a ≤ n
 min-most a b d n e h = omega arith
-
-max-most : (a b d n : ℕ) → a ≤ max b d → b ≤ n → d ≤ n → a ≤ n
-max-most a b d n h p q = omega arith
 
 pub search-ends : (x n y f hi far t k : ℕ) → f ≡ min x (2 ^ 40) → n ≤ 2 ^ 40 → hi ≡ min n y → far ≡ min hi (f + 5001) → t ≤ max f far → k ≤ max t hi → k < 2 ^ 62
 search-ends x n y f hi far t k ef en eh ea et ek =
@@ -162,7 +154,7 @@ module _ (floor : Float) (levels : List Float) (short : length levels ≤ 2 ^ 40
         let inside = far-inside f hi t (short-met .to) l in
         let s = met-some row false (hi - t) t in
         let m = met-on row false f hi (f + 5001) t short-met (subst (λ (n : ℕ). Met row false t n (s .0)) (up-to t hi inside) (s .1)) in
-        let n = frames-far f t (s .0) (2 ^ 40) l (s .1 .from) (most f hi (s .0) (2 ^ 40) (m .to) (rw isf (omega arith)) (rw ishi (omega arith))) in
+        let n = frames-far f t (s .0) (2 ^ 40) l (s .1 .from) (max-most (s .0) f hi (2 ^ 40) (m .to) (rw isf (omega arith)) (rw ishi (omega arith))) in
         rw (landed h, pastLoud-is row bound hi cut f (s .0) m, sub-pos (s .0) f (m .from), long-anyway letters (s .0 - f) few (n .0) (n .1))
 
     module _ (near : t - f < 5001) where

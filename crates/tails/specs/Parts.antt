@@ -5,9 +5,9 @@ use mathlib.Core.List.{List}
 use lib.Dec.{ltb, eqb}
 use lib.IntN.{pos}
 use lib.Ieee.{Float, le}
+use Rattle.base.specs.Words.{loose}
 use Rattle.base.specs.Floats.{_⊖_}
 use Rattle.envelope.specs.Levels.{loud}
-use Rattle.tails.specs.Tails.{loose}
 
 -- ---- The sound runs across the start of frame f.
 unfoldable pub across : List Bool → ℕ → Bool

@@ -9,7 +9,7 @@ use lib.ListN.{getD, length, set}
 use lib.Ieee.{Float, nan, binary64, ofBits, le}
 use Rattle.base.specs.Loop.{Turn, on, out, each, range}
 use Rattle.base.specs.Floats.{_⊖_, _⊗_, num}
-use Rattle.base.specs.Words.{Words, Edges, edges, timesAt}
+use Rattle.base.specs.Words.{Words, Edges, edges, timesAt, edgeQuiet, loose}
 use Rattle.base.specs.declared.Times.{Times}
 use Rattle.js.specs.Js.{jsMax}
 use Rattle.frames.specs.Frames.{frameAt, frameSeconds}
@@ -18,17 +18,9 @@ use Rattle.checks.specs.Calls.{soundRule, Output, moved}
 use Rattle.tails.specs.declared.Tail.{Tail}
 use Rattle.tails.specs.declared.Tail.the-variants.{Keeps, Hands}
 
--- ---- LOOSE, 0.05 s: a word that starts this long after the word before it ends, or later, keeps its start.
-abbrev pub loose : Float
-loose = ofBits binary64 0x3fa9_9999_9999_999a
-
--- ---- MIN_LETTER, 0.05 s: what a letter needs at the least.
+-- ---- MIN_LETTER, 0.05 s: a letter takes no less.
 abbrev pub minLetter : Float
 minLetter = ofBits binary64 0x3fa9_9999_9999_999a
-
--- ---- EDGE_QUIET: this many silent frames in a row, 80 ms, mark a word's edge.
-abbrev pub edgeQuiet : ℕ
-edgeQuiet = 8
 
 -- ---- let mut k = f; while k < bound && env.loud(k) { k += 1; }
 abbrev pub loudTurn : List Bool → ℤ → ℤ → Turn ℤ

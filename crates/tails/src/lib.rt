@@ -15,13 +15,13 @@ use base::Rule;
 use base::Times;
 use checks::Answer;
 
-// A word that starts this long after the word before it ends, in seconds, or later, keeps its start.
+// A start so many seconds or more after the word before ends lies on no tail.
 const LOOSE: f64 = 0.05;
-// Seconds per letter that a word needs at the least.
+// What one letter takes to say, in seconds, at the least.
 const MIN_LETTER: f64 = 0.05;
 // No word's letters need a sound of so many frames: 1,000 letters need 50 s.
 const MAX_TAIL: usize = 5001;
-// This many silent frames in a row, 80 ms, mark a word's edge.
+// So many quiet frames in a row, 80 ms, end a tail.
 const EDGE_QUIET: usize = 8;
 
 // What a word hands back: nothing, or where the word before it ends at the least, and where it starts itself.
@@ -125,7 +125,7 @@ fn hand_back(starts: &mut [f64], ends: &mut [f64], t: Tail, i: usize)
     }
 }
 
-// Gives the tail of a word's sound back to it where the next word starts on that tail (onsets.rs, hand_back_tails); nothing is checked.
+// Hands each tail of sound back to the word before, where a word starts on it (onsets.rs, hand_back_tails); nothing is checked.
 pub fn move_tails(starts: &mut [f64], ends: &mut [f64], letters: &[u32], levels: &[f64], floor: f64)
     requires { ⌜ (length (now ends) ≡ length (now starts)) × ((length (now letters) ≡ length (now starts)) × ((length (now levels) ≤ 2 ^ 40) × ((i : ℕ) → getD (now letters) i 0 ≤ 1000))) ⌝ }
     ensures { λ _. ⌜ edges (now (starts .exit)) (now (ends .exit)) ≡ handBackTails (loudRow floor (now (levels .entry))) (now (letters .entry)) (edges (now (starts .entry)) (now (ends .entry))) ⌝ }
@@ -142,7 +142,7 @@ pub fn move_tails(starts: &mut [f64], ends: &mut [f64], letters: &[u32], levels:
     }
 }
 
-// Gives tails of sound back to the words before, for words and levels within the limits (onsets.rs, hand_back_tails).
+// Hands tails of sound back to the words before, of words and levels within the limits (onsets.rs, hand_back_tails).
 pub fn hand_back_tails(
     starts: &mut [f64],
     ends: &mut [f64],

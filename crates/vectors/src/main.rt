@@ -1,5 +1,6 @@
-// Replays stored answers: a JavaScript engine's toFixed, min and max, exact roots and frames, and
-// cuts (compare/README.md says how they were made). Standard input has a row of 53 bytes for each:
+// Replays stored answers: a JavaScript engine's toFixed, min and max, exact roots and frames, cuts,
+// and words as the Rust of voxr moves them (compare/README.md says how they were made). Standard
+// input has a row of 53 bytes for each:
 //
 //     K AAAAAAAAAAAAAAAA BBBBBBBBBBBBBBBB RRRRRRRRRRRRRRRR
 //
@@ -10,8 +11,17 @@
 //     A frame_at  C frame_ceil    Z frame_from_zero  T frame_seconds (time)
 //     P pieces: the upper half of A is the number of frames, at most 2,048; B of them from the lower
 //       half of A on are quiet, and the others are loud; R is the end of the first piece, in samples
-//     X toFixed and Y frame_at, one row each, with an answer that is one step off on purpose, so
-//       that the output shows that a wrong answer is seen
+//     K collapse_loops: A has the keys of B words, at most 16, a digit each and none of them 0, from
+//       the highest digit on, and zeros after them; R has the keys that are left in the same way
+//     O snap_onsets: R is the new start of a word from A to 0.64 s
+//     E snap_ends: R is the new end of a word from A to 0.64 s; the duration is 0.64 s
+//     D hand_back_tails: R is the new start of the second of two words of 4 letters each, from 0 to
+//       0.1 s and from A to 0.64 s
+//     X toFixed, Y frame_at and W snap_onsets, one row each, with an answer that is one step off on
+//       purpose, so that the output shows that a wrong answer is seen
+//
+// O, E, D and W have a recording of 64 frames: frame k is loud where bit k of B is one, from the
+// lowest on.
 ghost use mathlib.Core.Path.{_≡_};
 ghost use Prim.Native.Nat.{_+_, _≤_};
 ghost use lib.Ieee.{binary64, nanBits};
@@ -19,15 +29,27 @@ use libc::STDIN_FILENO;
 use libc::STDOUT_FILENO;
 
 // The places of a tally: one for each kind of row, and the last for what is no row.
-const PLACES: usize = 12;
+const PLACES: usize = 17;
 
-const UNREADABLE: usize = 11;
+const UNREADABLE: usize = 16;
 
 // The most frames of a row of pieces.
 const FRAMES: usize = 2048;
 
 // Samples in a frame.
 const HOP: usize = 160;
+
+// A frame above this level is loud.
+const FLOOR: f64 = 0.5;
+
+// Samples of the recording of a row of words: 64 frames.
+const SAMPLES: usize = 10240;
+
+// How long that recording is, in seconds; the last word of its row ends there.
+const DURATION: f64 = 0.64;
+
+// The most words of a row of keys.
+const WORDS: usize = 16;
 
 // The place of a kind in a tally.
 fn place(kind: u8) -> usize {
@@ -42,7 +64,12 @@ fn place(kind: u8) -> usize {
         b'T' => 7,
         b'X' => 8,
         b'Y' => 9,
-        b'P' => 10,
+        b'W' => 10,
+        b'P' => 11,
+        b'K' => 12,
+        b'O' => 13,
+        b'E' => 14,
+        b'D' => 15,
         _ => UNREADABLE,
     }
 }
@@ -55,11 +82,19 @@ struct Digits {
 
 // The value of an upper-case hexadecimal digit, or 16 for any other byte.
 fn digit(c: u8) -> u64 {
-    match c {
-        b'0'..=b'9' => (c - 48) as u64,
-        b'A'..=b'F' => (c - 55) as u64,
-        _ => 16,
+    if c < b'0' {
+        return 16;
     }
+    if c <= b'9' {
+        return (c - 48) as u64;
+    }
+    if c < b'A' {
+        return 16;
+    }
+    if c <= b'F' {
+        return (c - 55) as u64;
+    }
+    16
 }
 
 // The number of the 16 digits from `at` on.
@@ -141,7 +176,7 @@ fn cut(levels: &[f64], frames: usize) -> usize {
     let mut starts = [0usize; 2];
     let mut ends = [0usize; 2];
     let count = frames * HOP;
-    let answer = pieces::pieces_at(&levels[..frames], 0.5, count, &mut starts, &mut ends);
+    let answer = pieces::pieces_at(&levels[..frames], FLOOR, count, &mut starts, &mut ends);
     match answer {
         pieces::Answer::Accepted(n) => first_end(n, ends[0], ends[1], count),
         pieces::Answer::Refused(_) => 0,
@@ -153,6 +188,174 @@ fn is_cut(a: u64, b: u64, r: u64) -> bool {
     let mut levels = [1.0; 2048];
     silence(&mut levels, (a & 0xffff_ffff) as usize, b as usize);
     cut(&levels, (a >> 32) as usize) == r as usize
+}
+
+// The highest of 16 digits, as a key.
+fn top_digit(digits: u64) -> u32 {
+    (digits >> 60) as u32
+}
+
+// A key as a digit.
+fn wide(key: u32) -> u64 {
+    key as u64
+}
+
+// Reads keys from digits, the highest first.
+fn set_keys(keys: &mut [u32], digits: u64) {
+    let mut left = digits;
+    let mut i = 0;
+    while i < keys.len() {
+        keys[i] = top_digit(left);
+        left = left << 4;
+        i += 1;
+    }
+}
+
+// The keys as digits, the first as the highest.
+fn digits_of(keys: &[u32; 16]) -> u64 {
+    let mut digits = 0u64;
+    let mut i = 0;
+    while i < WORDS {
+        digits = (digits << 4) | wide(keys[i]);
+        i += 1;
+    }
+    digits
+}
+
+// How many keys stand before the first zero.
+fn count_keys(keys: &[u32; 16]) -> usize {
+    let mut i = 0;
+    while i < WORDS {
+        if keys[i] == 0 {
+            return i;
+        }
+        i += 1;
+    }
+    i
+}
+
+// Whether the keys left are r, and n of them, where the rest of the answer is right.
+fn is_left(keys: &[u32; 16], n: usize, right: bool, r: u64) -> bool {
+    right && count_keys(keys) == n && digits_of(keys) == r
+}
+
+// Whether so many words keep the keys r, and the answer tells their number, and if any word went.
+fn is_collapsed(a: u64, words: usize, r: u64) -> bool {
+    if words > WORDS {
+        return false;
+    }
+    let mut starts = [0.0; 16];
+    let mut ends = [0.0; 16];
+    let mut letters = [1u32; 16];
+    let mut units = [1u32; 16];
+    let mut keys = [0u32; 16];
+    set_keys(&mut keys, a);
+    let answer = loops::collapse_loops(
+        &mut starts[..words],
+        &mut ends[..words],
+        &mut letters[..words],
+        &mut units[..words],
+        &mut keys[..words],
+    );
+    match answer {
+        loops::Answer::Accepted(n, found) => is_left(&keys, n, found == (n < words), r),
+        loops::Answer::Refused(_) => false,
+    }
+}
+
+// The level of a frame: loud where the lowest bit is one.
+fn level(loud: u64) -> f64 {
+    if loud % 2 == 1 {
+        return 1.0;
+    }
+    0.0
+}
+
+// Makes a frame loud for each bit that is one, the lowest first.
+fn set_levels(levels: &mut [f64; 64], loud: u64) {
+    let mut left = loud;
+    let mut k = 0;
+    while k < 64 {
+        levels[k] = level(left);
+        left = left >> 1;
+        k += 1;
+    }
+}
+
+// Whether r is the new start of one word from `start` on.
+fn is_onset(levels: &[f64; 64], start: f64, r: u64) -> bool {
+    let mut starts = [start; 1];
+    let ends = [DURATION; 1];
+    let ones = [1u32; 1];
+    let answer = onsets::snap_onsets(
+        &mut starts,
+        &ends,
+        &ones,
+        &ones,
+        &ones,
+        levels,
+        FLOOR,
+        SAMPLES,
+    );
+    match answer {
+        checks::Answer::Accepted => same(starts[0], r),
+        checks::Answer::Refused(_) => false,
+    }
+}
+
+// Whether r is the new end of one word from `start` on.
+fn is_end(levels: &[f64; 64], start: f64, r: u64) -> bool {
+    let mut starts = [start; 1];
+    let mut ends = [DURATION; 1];
+    let ones = [1u32; 1];
+    let answer = ends::snap_ends(
+        &mut starts,
+        &mut ends,
+        &ones,
+        &ones,
+        &ones,
+        levels,
+        FLOOR,
+        SAMPLES,
+        DURATION,
+    );
+    match answer {
+        checks::Answer::Accepted => same(ends[0], r),
+        checks::Answer::Refused(_) => false,
+    }
+}
+
+// Whether r is the new start of a word from `start` on, after one that ends at 0.1 s.
+fn is_handed_back(levels: &[f64; 64], start: f64, r: u64) -> bool {
+    let mut starts = [0.0, start];
+    let mut ends = [0.1, DURATION];
+    let letters = [4u32; 2];
+    let ones = [1u32; 2];
+    let answer = tails::hand_back_tails(
+        &mut starts,
+        &mut ends,
+        &letters,
+        &ones,
+        &ones,
+        levels,
+        FLOOR,
+        SAMPLES,
+    );
+    match answer {
+        checks::Answer::Accepted => same(starts[1], r),
+        checks::Answer::Refused(_) => false,
+    }
+}
+
+// Whether r is the time that a stage leaves, for each kind of row with a recording.
+fn is_moved(kind: u8, start: f64, loud: u64, r: u64) -> bool {
+    let mut levels = [0.0; 64];
+    set_levels(&mut levels, loud);
+    match kind {
+        b'E' => is_end(&levels, start, r),
+        b'D' => is_handed_back(&levels, start, r),
+        _ => is_onset(&levels, start, r),
+    }
 }
 
 // Whether r is the answer for a and b, for each kind of row.
@@ -167,12 +370,14 @@ fn is_right(kind: u8, a: u64, b: u64, r: u64) -> bool {
         b'Z' => frames::frame_from_zero(float(a)) == signed(r),
         b'T' => same(frames::frame_seconds(signed(a)), r),
         b'P' => is_cut(a, b, r),
+        b'K' => is_collapsed(a, b as usize, r),
+        b'O' | b'E' | b'D' | b'W' => is_moved(kind, float(a), b, r),
         _ => false,
     }
 }
 
 // Adds one at a place of a tally.
-fn add(tally: &mut [u64; 12], at: usize) {
+fn add(tally: &mut [u64; 17], at: usize) {
     if at < PLACES {
         if tally[at] < u64::MAX {
             tally[at] += 1;
@@ -185,16 +390,24 @@ fn is_spaced(row: &[u8; 53]) -> bool {
     row[1] == b' ' && row[18] == b' ' && row[35] == b' ' && row[52] == b'\n'
 }
 
-// The second input: only min, max and pieces have one.
+// Whether a kind has a second input.
+fn has_second(kind: u8) -> bool {
+    match kind {
+        b'L' | b'H' | b'P' | b'K' | b'O' | b'E' | b'D' | b'W' => true,
+        _ => false,
+    }
+}
+
+// The second input, or 0 where the kind has none.
 fn second(row: &[u8; 53]) -> Digits {
-    if row[0] == b'L' || row[0] == b'H' || row[0] == b'P' {
+    if has_second(row[0]) {
         return number(row, 19);
     }
     Digits { bits: 0, seen: 0 }
 }
 
 // Counts a row, and counts it as wrong where its answer is.
-fn judge(row: &[u8; 53], compared: &mut [u64; 12], wrong: &mut [u64; 12]) {
+fn judge(row: &[u8; 53], compared: &mut [u64; 17], wrong: &mut [u64; 17]) {
     let a = number(row, 2);
     let b = second(row);
     let r = number(row, 36);
@@ -209,7 +422,7 @@ fn judge(row: &[u8; 53], compared: &mut [u64; 12], wrong: &mut [u64; 12]) {
 }
 
 // Reads one row and judges it; answers whether to go on.
-fn take_row(compared: &mut [u64; 12], wrong: &mut [u64; 12]) -> bool {
+fn take_row(compared: &mut [u64; 17], wrong: &mut [u64; 17]) -> bool {
     let mut row = [0u8; 53];
     let n = io::read_full(STDIN_FILENO, &mut row);
     if n == 0 {
@@ -225,7 +438,7 @@ fn take_row(compared: &mut [u64; 12], wrong: &mut [u64; 12]) -> bool {
 
 // Judges every row. A proved loop has to end, and nothing says that the input does, so it counts
 // its turns down from a number that no run uses up.
-fn take_all(compared: &mut [u64; 12], wrong: &mut [u64; 12]) {
+fn take_all(compared: &mut [u64; 17], wrong: &mut [u64; 17]) {
     let mut turns = u64::MAX;
     while turns > 0 && take_row(compared, wrong) {
         turns -= 1;
@@ -241,22 +454,47 @@ fn print_line(name: &[u8], compared: u64, wrong: u64) {
     io::write_all(STDOUT_FILENO, b" wrong\n");
 }
 
-fn main() {
-    let mut compared = [0u64; 12];
-    let mut wrong = [0u64; 12];
-    take_all(&mut compared, &mut wrong);
+// Writes the lines of numbers.
+fn print_numbers(compared: &[u64; 17], wrong: &[u64; 17]) {
     print_line(b"toFixed ", compared[0], wrong[0]);
     print_line(b"min ", compared[1], wrong[1]);
     print_line(b"max ", compared[2], wrong[2]);
     print_line(b"sqrt ", compared[3], wrong[3]);
+}
+
+// Writes the lines of frames.
+fn print_frames(compared: &[u64; 17], wrong: &[u64; 17]) {
     print_line(b"frame at ", compared[4], wrong[4]);
     print_line(b"frame ceil ", compared[5], wrong[5]);
     print_line(b"frame from zero ", compared[6], wrong[6]);
     print_line(b"frame seconds ", compared[7], wrong[7]);
+}
+
+// Writes the lines of the rows whose answer is wrong on purpose.
+fn print_planted(compared: &[u64; 17], wrong: &[u64; 17]) {
     print_line(b"planted toFixed ", compared[8], wrong[8]);
     print_line(b"planted frame ", compared[9], wrong[9]);
-    print_line(b"pieces ", compared[10], wrong[10]);
+    print_line(b"planted onset ", compared[10], wrong[10]);
+}
+
+// Writes the lines of pieces and words.
+fn print_words(compared: &[u64; 17], wrong: &[u64; 17]) {
+    print_line(b"pieces ", compared[11], wrong[11]);
+    print_line(b"loops ", compared[12], wrong[12]);
+    print_line(b"onsets ", compared[13], wrong[13]);
+    print_line(b"ends ", compared[14], wrong[14]);
+    print_line(b"tails ", compared[15], wrong[15]);
+}
+
+fn main() {
+    let mut compared = [0u64; 17];
+    let mut wrong = [0u64; 17];
+    take_all(&mut compared, &mut wrong);
+    print_numbers(&compared, &wrong);
+    print_frames(&compared, &wrong);
+    print_planted(&compared, &wrong);
+    print_words(&compared, &wrong);
     io::write_all(STDOUT_FILENO, b"unreadable ");
-    io::print_decimal(STDOUT_FILENO, compared[11]);
+    io::print_decimal(STDOUT_FILENO, compared[UNREADABLE]);
     io::write_all(STDOUT_FILENO, b"\n");
 }

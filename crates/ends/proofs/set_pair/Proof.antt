@@ -1,7 +1,7 @@
 -- `ends::set_pair` meets its contract. Assumes nothing.
 use borrow.Author.Needs.{needs}
 use mathlib.Core.Path.{refl}
-use Rattle.ends.specs.Parts.{setPair}
+use Rattle.ends.specs.Ends.{setPair}
 use Rattle.ends.proofs.set_pair.Statement.{statement}
 use Rattle.ends.proofs.set_pair.Tie as tie
 
