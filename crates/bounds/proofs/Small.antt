@@ -1,22 +1,26 @@
--- Every time stays finite and below 2^13 in size, through each of hand_back_tails, snap_onsets and snap_ends, and through the three in a row: times
--- start within 7,200 s, onsets add 1 sixty-fourth, and ends 10 for each of 4,096 words, so 501,761 of 524,288. Assumes nothing.
-use Prim.Native.Nat.{ℕ, suc, _+_, _*_, _/_, _<_, _≤_, _^_}
+-- Every time stays finite and below 2^13 in size, through each of collapse_loops, hand_back_tails, snap_onsets and snap_ends, and through them in a row: times
+-- start within 7,200 s, loops raise none, onsets add 1 sixty-fourth, and ends 10 for each of 4,096 words, so 501,761 of 524,288. Assumes nothing.
+use Prim.Native.Nat.{ℕ, zero, suc, _+_, _-_, _*_, _/_, _<_, _≤_, _^_}
 use mathlib.Core.Bool.{Bool, true, false, _&&_, _||_, true≢false}
 use mathlib.Core.List.{List}
-use mathlib.Core.Path.{_≡_, refl, sym, _∙_, subst}
+use mathlib.Core.Path.{_≡_, refl, sym, ap, _∙_, subst}
 use native.Mathlib.Nat.{mul-le-mul-right}
 use native.Mathlib.Omega.{arith}
 use borrow.Author.Tests.{ltb-true, eqb-true}
-use lib.Dec.{ltb, eqb}
-use lib.ListN.{length, getD}
+use lib.Dec.{ltb, eqb, lit<}
+use lib.ListN.{length, getD, replicate}
 use lib.Ieee.{Float, nan, inf, fin, up, down, lt, le, eq, ofBits}
 use lib.Ieee.Fits.{down-pos}
 use Rattle.base.specs.Words.{Words, Edges, edges, withEdges}
 use Rattle.checks.specs.declared.Answer.the-variants.{Accepted}
-use Rattle.checks.proofs.Within.{Within, WordsWithin}
+use Rattle.checks.proofs.Within.{Within, AllWithin, WordsWithin}
 use Rattle.checks.proofs.Moved.{SoundWithin}
 use Rattle.envelope.specs.Levels.{loudRow}
 use Rattle.envelope.proofs.Scan.{length-row}
+use Rattle.loops.specs.Loops.{count, collapseLoops, inPlaces, zeroF, wordsInPlaces}
+use Rattle.loops.specs.Calls.{Output, collapseCall}
+use Rattle.loops.proofs.Kept.{All, all-append, all-at, at-all, left-within}
+use Rattle.loops.proofs.Promises as loops
 use Rattle.tails.specs.Tails.{handBackTails, tailsCall}
 use Rattle.tails.proofs.Calls as tails
 use Rattle.onsets.specs.Onsets.{snapOnsets, onsetsCall}
@@ -67,6 +71,29 @@ words-under ws w = record {
   ends = λ i h. within-under (getD (ws .ends) i nan) (w .ends-within i h);
 }
 
+within-small : (t : Float) → Within t → Small t
+within-small t h = small-under 460800 t (omega arith) (within-under t h)
+
+-- ---- loops: the words left are given words, and the places past them hold zero
+zeros-small : (n : ℕ) → All Small (replicate n zeroF)
+unfolding ofBits
+zeros-small zero = tt
+zeros-small (suc n) = (lit< tt, zeros-small n)
+
+places-small : (m : ℕ) (ts : List Float) → AllWithin ts → (i : ℕ) → i < length (inPlaces zeroF m ts) → Small (getD (inPlaces zeroF m ts) i nan)
+places-small m ts h =
+    all-at Small nan (inPlaces zeroF m ts)
+    (all-append Small ts (replicate (m - length ts) zeroF) (at-all Small nan ts (λ i l. within-small (getD ts i nan) (h i l))) (zeros-small (m - length ts)))
+
+pub loops-small : (ws : Words) → WordsWithin ws → SmallTimes (collapseCall ws .words)
+unfolding wordsInPlaces
+loops-small ws w =
+    let left = left-within ws w in
+    subst SmallTimes (sym (ap (λ (o : Output). o .words) (loops.accepted-exactly ws .0 w))) (record {
+      starts = places-small (count ws) (collapseLoops ws .words .starts) (left .starts-within);
+      ends = places-small (count ws) (collapseLoops ws .words .ends) (left .ends-within);
+    })
+
 -- ---- an hour has 360,000 frames
 hour-long : (levels : List Float) (floor : Float) (count : ℕ) → (count ≤ 57600000) × (length levels ≡ count / 160) → length (loudRow floor levels) ≤ 360000
 hour-long levels floor count h = rw (length-row floor levels) (omega (arith, h .0, h .1))
@@ -116,3 +143,9 @@ module _ (ws : Words) (levels : List Float) (floor : Float) (count : ℕ) where
         edges-small (460801 + growth * length (es₂ .starts)) (snapEnds row duration (ws .units) es₂) ws (omega arith)
         (ends-under row 460801 duration (ws .units) es₂ short (omega arith) (omega arith) (under-more 460800 460801 duration (omega arith) (within-under duration d)) (w .0 .units-from-1)
         (long-ends ∙ sym long) (w .0 .units-as-long ∙ sym long) u₂)
+
+-- ---- loops and the three stages in a row: the stages on the words that loops leave
+pub all-small : (ws : Words) (levels : List Float) (floor : Float) (samples : ℕ) (duration : Float) → WordsWithin ws → (samples ≤ 57600000) × (length levels ≡ samples / 160) → Within duration
+    → let left : Words = collapseLoops ws .words in
+    SmallTimes (withEdges (snapEnds (loudRow floor levels) duration (left .units) (snapOnsets (loudRow floor levels) (handBackTails (loudRow floor levels) (left .letters) (edges (left .starts) (left .ends))))) left)
+all-small ws levels floor samples duration w l d = stages-small (collapseLoops ws .words) levels floor samples duration (left-within ws w, l) d

@@ -7,6 +7,7 @@ pub mod InPlace
 pub mod Cleared
 pub mod Found
 pub mod Whole
+pub mod Kept
 pub mod Rules
 pub mod Promises
 pub mod Witnesses

@@ -1,0 +1,94 @@
+-- The words left are given words: what holds of every number of a list holds of every number that is left of it. So words within the limits leave
+-- words within the limits. Assumes nothing.
+use Prim.Native.Nat.{ℕ, zero, suc, _+_, _<_, _≤_}
+use mathlib.Core.Path.{refl, sym, _∙_, subst}
+use mathlib.Core.List.{List, [], _∷_, _++_}
+use native.Mathlib.Omega.{arith}
+use lib.ListN.{length, take, drop, getD}
+use lib.Ieee.{nan}
+use Rattle.base.specs.Words.{Words}
+use Rattle.base.proofs.Loops.{each-holds}
+use Rattle.checks.proofs.Within.{Within, WordsWithin}
+use Rattle.loops.specs.Loops.{maxRun, count, drained, drain, collapseLoops}
+use Rattle.loops.specs.Parts.{goesOn, turnWords, passWords, loopWords}
+use Rattle.loops.proofs.Found.{loops-words, never-more}
+use Rattle.loops.proofs.Whole.{left-even}
+
+-- ---- P holds of every element
+module _ {A : Type 0} (P : A → Type 0) where
+  abbrev pub All : List A → Type 0
+  All [] = Unit {0}
+  All (x ∷ xs) = P x × All xs
+
+  pub all-append : (xs ys : List A) → All xs → All ys → All (xs ++ ys)
+  all-append [] ys h k = k
+  all-append (x ∷ xs) ys h k = (h .0, all-append xs ys (h .1) k)
+
+  all-take : (n : ℕ) (xs : List A) → All xs → All (take n xs)
+  all-take zero [] h = tt
+  all-take zero (x ∷ xs) h = tt
+  all-take (suc n) [] h = tt
+  all-take (suc n) (x ∷ xs) h = (h .0, all-take n xs (h .1))
+
+  all-drop : (n : ℕ) (xs : List A) → All xs → All (drop n xs)
+  all-drop zero [] h = h
+  all-drop zero (x ∷ xs) h = h
+  all-drop (suc n) [] h = tt
+  all-drop (suc n) (x ∷ xs) h = all-drop n xs (h .1)
+
+  all-drained : (a e : ℕ) (xs : List A) → All xs → All (drained a e xs)
+  all-drained a e xs h = all-append (take a xs) (drop e xs) (all-take a xs h) (all-drop e xs h)
+
+  -- by places
+  pub all-at : (d : A) (xs : List A) → All xs → (i : ℕ) → i < length xs → P (getD xs i d)
+  all-at d [] h i l = absurd (omega arith)
+  all-at d (x ∷ xs) h zero l = h .0
+  all-at d (x ∷ xs) h (suc i) l = all-at d xs (h .1) i (omega arith)
+
+  pub at-all : (d : A) (xs : List A) → ((i : ℕ) → i < length xs → P (getD xs i d)) → All xs
+  at-all d [] h = tt
+  at-all d (x ∷ xs) h = (h 0 (omega arith), at-all d xs (λ (i : ℕ) (l : i < length xs). h (suc i) (omega arith)))
+
+-- ---- times, letters and units within the limits
+abbrev From : ℕ → ℕ → ℕ → Type 0
+From a b n = (a ≤ n) × (n ≤ b)
+
+abbrev Numbers : Words → Type 0
+Numbers ws = All Within (ws .starts) × (All Within (ws .ends) × (All (From 1 1000) (ws .letters) × All (From 1 10000) (ws .units)))
+
+drain-numbers : (a e : ℕ) (ws : Words) → Numbers ws → Numbers (drain a e ws)
+drain-numbers a e ws h = (
+  all-drained Within a e (ws .starts) (h .0),
+  (all-drained Within a e (ws .ends) (h .1 .0), (all-drained (From 1 1000) a e (ws .letters) (h .1 .1 .0), all-drained (From 1 10000) a e (ws .units) (h .1 .1 .1))),
+)
+
+pass-numbers : (n : ℕ) (ws : Words) → Numbers ws → Numbers (passWords n ws)
+unfolding passWords turnWords
+pass-numbers n ws h =
+    each-holds (λ (i : ℕ) (ws : Words). Numbers ws) (turnWords n) (count ws) (λ (i : ℕ) (ws : Words) (l : i < _) (h : Numbers ws). drain-numbers (i + n) (goesOn n i ws) ws h)
+    (count ws) 0 ws (omega arith) h
+
+left-numbers : (ws : Words) → Numbers ws → Numbers (collapseLoops ws .words)
+unfolding loopWords
+left-numbers ws h =
+    subst Numbers (sym (loops-words ws))
+    (each-holds (λ (n : ℕ) (ws : Words). Numbers ws) passWords 5 (λ (n : ℕ) (ws : Words) (l : n < 5) (h : Numbers ws). pass-numbers n ws h) maxRun 1 ws (omega arith) h)
+
+-- ---- Words within the limits leave words within the limits.
+pub left-within : (ws : Words) → WordsWithin ws → WordsWithin (collapseLoops ws .words)
+left-within ws w =
+    let k = w .keys-as-long in
+    let even = left-even ws (sym k, (w .ends-as-long ∙ sym k, (w .letters-as-long ∙ sym k, (w .units-as-long ∙ sym k, refl)))) in
+    let numbers = left-numbers ws (at-all Within nan (ws .starts) (w .starts-within), (at-all Within nan (ws .ends) (w .ends-within), (at-all (From 1 1000) 0 (ws .letters) (w .letters-from-1), at-all (From 1 10000) 0 (ws .units) (w .units-from-1)))) in
+    let left = collapseLoops ws .words in
+    record {
+      ends-as-long = even .1 .0 ∙ sym (even .0);
+      letters-as-long = even .1 .1 .0 ∙ sym (even .0);
+      units-as-long = even .1 .1 .1 .0 ∙ sym (even .0);
+      keys-as-long = sym (even .0);
+      few = omega (arith, even .0, never-more ws, k, w .few);
+      starts-within = all-at Within nan (left .starts) (numbers .0);
+      ends-within = all-at Within nan (left .ends) (numbers .1 .0);
+      letters-from-1 = all-at (From 1 1000) 0 (left .letters) (numbers .1 .1 .0);
+      units-from-1 = all-at (From 1 10000) 0 (left .units) (numbers .1 .1 .1);
+    }
