@@ -116,5 +116,5 @@ module _ (b y : ℕ) (u : b < 2047 * 2 ^ 52) where
       twice = omega arith
 
 -- a finite pattern is no NaN's
-pub no-nan-bits : (r : Float) (y : ℕ) → Rooted r y → T (not (nanBits binary64 y))
-no-nan-bits r y h = subst (λ (b : Bool). T (not b)) (sym (nanBits-above binary64 y)) (le→nltb (2047 * 2 ^ 52) (y % 2 ^ 63) (omega arith))
+pub finite-bits : (y : ℕ) → y < 2047 * 2 ^ 52 → T (not (nanBits binary64 y))
+finite-bits y h = subst (λ (b : Bool). T (not b)) (sym (nanBits-above binary64 y)) (le→nltb (2047 * 2 ^ 52) (y % 2 ^ 63) (omega arith))

@@ -6,6 +6,7 @@ pub mod Nearer
 pub mod Nearest
 mod Ties
 mod Search
+mod Tested
 mod Fours
 mod Cases
 mod Examples

@@ -6,7 +6,7 @@ use lib.Ieee.Bits.{ofBits-toBits, toBits-lt}
 use borrow.Author.Needs.{needs}
 use Rattle.base.proofs.Signs.{no-nan}
 use Rattle.roots.specs.Sqrt.{sqrt}
-use Rattle.roots.proofs.Cases.{at-nan, made-nan, plus-zero, minus-zero, below-zero, infinite, no-nan-bits}
+use Rattle.roots.proofs.Cases.{at-nan, made-nan, plus-zero, minus-zero, below-zero, infinite, finite-bits}
 use Rattle.roots.proofs.sqrt.Statement.{statement}
 use Rattle.roots.proofs.sqrt.Tie as tie
 
@@ -47,7 +47,7 @@ root-of-requires : tie.Need-root-of-requires
 root-of-requires c κs = search needs
 
 float-from-bits-result : tie.Need-float-from-bits-result
-float-from-bits-result c = no-nan-bits _ (c .root-of .result) (c .root-of .ensures)
+float-from-bits-result c = finite-bits (c .root-of .result) (c .root-of .ensures .finite)
 
 returns-6 : tie.Need-returns-6
 returns-6 c = other (c .before .before .before .before .before .before) _ (c .root-of .ensures .value)
