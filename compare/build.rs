@@ -13,8 +13,11 @@ use std::{env, fs};
 const TAKEN: &[(&str, &str)] = &[
     ("js", "js.rs"),
     ("transcript::envelope", "transcript/envelope.rs"),
+    ("transcript::even", "transcript/even.rs"),
+    ("transcript::fit", "transcript/fit.rs"),
     ("transcript::loops", "transcript/loops.rs"),
     ("transcript::onsets", "transcript/onsets.rs"),
+    ("transcript::phrase_align", "transcript/phrase_align.rs"),
     ("transcript::pieces", "transcript/pieces.rs"),
 ];
 
@@ -27,6 +30,7 @@ const STAND_INS: &[(&str, &str)] = &[
     ("error", "error.rs"),
     ("js_math", "js_math.rs"),
     ("pattern", "pattern.rs"),
+    ("text", "text.rs"),
     ("transcript::transcriber", "transcriber.rs"),
 ];
 
@@ -49,7 +53,8 @@ impl Modules {
 
     fn write(&self, text: &mut String) {
         for (name, file) in &self.files {
-            let attributes = format!("#[allow(dead_code)] #[path = {file:?}]");
+            let attributes =
+                format!("#[allow(dead_code, clippy::clone_on_copy)] #[path = {file:?}]");
             writeln!(text, "{attributes} pub(crate) mod {name};").unwrap();
         }
         for (name, modules) in &self.inner {

@@ -8,8 +8,9 @@
  *
  * A call that can refuse answers a refusal: 0 where it accepts, else document 01's number, and then
  * lent memory keeps its bits. Here: 1 a time outside its range, 2 letters or units outside theirs,
- * 3 lists of words that differ in length, 4 too many samples or words, 6 too few places, 7 a number of
- * levels that isn't samples / 160, rounded down. Where several apply, the first of 3, 4, 1, 2, 7, 6.
+ * 3 lists of words or of spans that differ in length, 4 too many samples, words or spans, or too large
+ * a span count, 6 too few places, 7 a number of levels that isn't samples / 160, rounded down. Where
+ * several apply, the first of 3, 4, 1, 2, 7, 6.
  *
  * Times are in seconds. A frame is 160 samples at 16,000 samples a second: 10 ms.
  */
@@ -174,6 +175,54 @@ uint32_t qiluvrait_snap_ends(double *starts, size_t starts_len, double *ends, si
                              size_t units_len, const uint32_t *keys, size_t keys_len,
                              const double *levels, size_t levels_len, double floor, size_t count,
                              double duration);
+
+/*
+ * Spans: three lists, in which place p has the start and the end of phrase p, from -7,200 to 7,200, and
+ * how many words it has, at most 4,096. At most 4,096 spans. They may be empty, reversed or overlap.
+ */
+
+/* What qiluvrait_align_phrases answers: how many words are kept; 0 where it refuses. */
+struct qiluvrait_placed {
+    uint32_t refusal;
+    size_t count;
+};
+
+/*
+ * Phrases. Each span takes its count of words, in order, until words run out, and its words get its
+ * number, from 0, in phrases. A word is inside its span where it starts 0.02 s before it or later, ends
+ * 0.02 s after it or sooner, and lasts 0.04 s or longer: it keeps its times. Where a span has no such
+ * word, its words share the span by letters. Else the words before the first inside one share the time
+ * from the span's start to that word's start, and the words after the last inside one the time from
+ * that word's end to the span's end; time below zero counts as none. Any other word starts where the
+ * word before it ends, and ends where the next one started before it was moved, or where it starts
+ * itself, if that is later. Words past all counts are dropped: their places become zero in all five
+ * lists and in phrases. Needs a phrase place for every word; further ones stay. Without spans every
+ * word is dropped. Refusals: 3, 4, 1, 2, 6.
+ */
+struct qiluvrait_placed qiluvrait_align_phrases(double *starts, size_t starts_len, double *ends,
+                                                size_t ends_len, uint32_t *letters, size_t letters_len,
+                                                uint32_t *units, size_t units_len, uint32_t *keys,
+                                                size_t keys_len, const double *span_starts,
+                                                size_t span_starts_len, const double *span_ends,
+                                                size_t span_ends_len, const uint32_t *counts,
+                                                size_t counts_len, uint32_t *phrases, size_t phrases_len);
+
+/*
+ * Evening. A word shorter than 0.08 s is crushed. Crushed words in a row are a run, and the word before
+ * them belongs to it that lasts longer than 0.25 s and 0.12 s for each of its letters. While the next
+ * word starts too soon to leave 0.05 s for each letter of the run, and the run's last word stands fewer
+ * than 6 places behind its first, the run takes it along. Then it has a ceiling: the next word's start,
+ * or behind the last word the sooner of the limit and 0.12 s for each of that word's letters after its
+ * end. While the ceiling is too soon in the same way, it takes the word before along. The run ends at
+ * the ceiling, or 0.12 s for each letter and 0.1 s for each word after its start, if that is sooner,
+ * but not before its last word ended; and its words share that time by letters. Where that end is
+ * before the run's start, they run backwards. The limit, in seconds, is among the times for refusal 1
+ * and may be +infinity. Answers 0 where it accepts, whether a time moved or not, else the refusal: 3,
+ * 4, 1 or 2. Writes starts and ends.
+ */
+uint32_t qiluvrait_even_out(double *starts, size_t starts_len, double *ends, size_t ends_len,
+                            const uint32_t *letters, size_t letters_len, const uint32_t *units,
+                            size_t units_len, const uint32_t *keys, size_t keys_len, double limit);
 
 #ifdef __cplusplus
 }

@@ -2,7 +2,7 @@
 
 use crate::places::Places;
 use crate::sounds::Sound;
-use crate::words::Lent;
+use crate::words::{Lent, Spans};
 
 /// The answer of an envelope.
 #[repr(C)]
@@ -31,6 +31,14 @@ pub struct Level {
 pub struct Left {
     pub refusal: u32,
     pub found: u32,
+    pub count: usize,
+}
+
+/// The answer of placing: how many words are kept.
+#[repr(C)]
+#[derive(Debug, PartialEq)]
+pub struct Placed {
+    pub refusal: u32,
     pub count: usize,
 }
 
@@ -122,6 +130,39 @@ unsafe extern "C" {
         count: usize,
         duration: f64,
     ) -> u32;
+    fn qiluvrait_even_out(
+        starts: *mut f64,
+        n_starts: usize,
+        ends: *mut f64,
+        n_ends: usize,
+        letters: *const u32,
+        n_letters: usize,
+        units: *const u32,
+        n_units: usize,
+        keys: *const u32,
+        n_keys: usize,
+        limit: f64,
+    ) -> u32;
+    fn qiluvrait_align_phrases(
+        starts: *mut f64,
+        n_starts: usize,
+        ends: *mut f64,
+        n_ends: usize,
+        letters: *mut u32,
+        n_letters: usize,
+        units: *mut u32,
+        n_units: usize,
+        keys: *mut u32,
+        n_keys: usize,
+        span_starts: *const f64,
+        n_span_starts: usize,
+        span_ends: *const f64,
+        n_span_ends: usize,
+        counts: *const u32,
+        n_counts: usize,
+        phrases: *mut u32,
+        n_phrases: usize,
+    ) -> Placed;
 }
 
 pub fn envelope(samples: &[f32], levels: &mut Places) -> Heard {
@@ -221,5 +262,29 @@ pub fn snap_ends(words: &mut Lent, over: Over, duration: f64) -> u32 {
         floor,
         count,
         duration
+    )
+}
+
+pub fn even_out(words: &mut Lent, limit: f64) -> u32 {
+    of_words!(qiluvrait_even_out, words, limit)
+}
+
+pub fn align_phrases(words: &mut Lent, spans: &mut Spans, phrases: &mut Places<u32>) -> Placed {
+    let Spans {
+        starts: from,
+        ends: to,
+        counts,
+    } = spans;
+    of_words!(
+        qiluvrait_align_phrases,
+        words,
+        from.doubles(),
+        from.lent(),
+        to.doubles(),
+        to.lent(),
+        counts.numbers(),
+        counts.lent(),
+        phrases.numbers(),
+        phrases.lent()
     )
 }

@@ -1,6 +1,9 @@
 //! Compares this library with the Rust of voxr, bit for bit, and times both. See README.md.
 
 mod bench;
+mod crushed;
+mod even;
+mod even_rule;
 mod faults;
 mod ffi;
 mod heard;
@@ -9,22 +12,32 @@ mod inputs;
 mod loops;
 mod numbers;
 mod peak;
+mod phrases;
+mod phrases_rule;
 mod pieces;
 mod places;
+mod planted;
 mod recordings;
 mod report;
 mod rows;
 mod sounds;
+mod spans;
 mod spoken;
 mod stages;
 mod times;
 mod vectors;
+mod vectors_lists;
 mod words;
+mod words_alone;
 mod words_hour;
 mod words_refused;
 
 // The files of voxr and the stand-ins, as modules of this package (build.rs).
 include!(concat!(env!("OUT_DIR"), "/voxr.rs"));
+
+// voxr derives `serde::Serialize`, which nothing taken asks of: `Default` is derived in its place.
+extern crate self as serde;
+use std::default::Default as Serialize;
 
 use std::process::ExitCode;
 
@@ -52,6 +65,9 @@ fn entries() -> Vec<&'static dyn Compared> {
     let entries = entries.chain(all(&[peak::Peak]));
     let entries = entries.chain(all(&[loops::Loops]));
     let entries = entries.chain(all(stages::STAGES));
+    let entries = entries.chain(all(&[phrases::Phrases]));
+    let entries = entries.chain(all(&[even::Even]));
+    let entries = entries.chain(all(planted::PLANTED));
     let entries = entries.chain(all(&[words_refused::Refused]));
     entries.collect()
 }
@@ -81,7 +97,14 @@ fn compare(cases: u64, names: &[String]) -> ExitCode {
     for entry in entries.iter().filter(|e| is_named(e.name())) {
         agree &= report::compare(*entry, SEED, cases);
     }
-    println!("{}", if agree { "no difference" } else { "DIFFERENT" });
+    println!(
+        "{}",
+        if agree {
+            "no difference"
+        } else {
+            "DIFFERENT, OR NOT REACHED"
+        }
+    );
     if agree {
         ExitCode::SUCCESS
     } else {

@@ -6,10 +6,12 @@ use std::thread;
 
 use crate::inputs::Random;
 
-/// What a case found: how many things it compared, and the first of them that differs.
+/// What a case found: how many things it compared, the first of them that differs, and which
+/// branches it reached.
 pub struct Case {
     pub compared: u64,
     pub difference: Option<String>,
+    pub reached: Reached,
 }
 
 impl Case {
@@ -17,7 +19,23 @@ impl Case {
         Case {
             compared: compared as u64,
             difference,
+            reached: Reached::default(),
         }
+    }
+}
+
+/// Branches that were reached: a bit for each, by its place in `Compared::branches`.
+#[derive(Clone, Copy, Default)]
+pub struct Reached(u64);
+
+impl Reached {
+    /// Adds a branch where `yes` says so.
+    pub fn add(&mut self, branch: usize, yes: bool) {
+        self.0 |= u64::from(yes) << branch;
+    }
+
+    fn has(self, branch: usize) -> bool {
+        self.0 >> branch & 1 == 1
     }
 }
 
@@ -32,6 +50,10 @@ pub trait Compared: Sync {
     fn weight(&self) -> u64 {
         1
     }
+    /// What the random cases have to reach, each at least once.
+    fn branches(&self) -> Vec<String> {
+        Vec::new()
+    }
 }
 
 /// The random cases come in this many parts, each with a generator of its own, so that they are
@@ -39,6 +61,8 @@ pub trait Compared: Sync {
 const PARTS: u64 = 256;
 /// So many differences are printed.
 const SHOWN: usize = 5;
+/// So many random cases, or more, have to reach every branch.
+const ENOUGH: u64 = 10_000;
 
 #[derive(Default)]
 struct Found {
@@ -47,12 +71,26 @@ struct Found {
     differences: u64,
     /// The first differences, with the place of each: the part, and the case in it.
     shown: Vec<(u64, u64, String)>,
+    /// How many random cases reached each branch.
+    reached: Vec<u64>,
 }
 
 impl Found {
+    fn new(entry: &dyn Compared) -> Found {
+        Found {
+            reached: vec![0; entry.branches().len()],
+            ..Found::default()
+        }
+    }
+
     fn case(&mut self, part: u64, case: Case) {
         self.cases += 1;
         self.compared += case.compared;
+        if part > 0 {
+            for (branch, count) in self.reached.iter_mut().enumerate() {
+                *count += u64::from(case.reached.has(branch));
+            }
+        }
         let Some(text) = case.difference else { return };
         self.differences += 1;
         if self.shown.len() < SHOWN {
@@ -64,6 +102,9 @@ impl Found {
         self.cases += other.cases;
         self.compared += other.compared;
         self.differences += other.differences;
+        for (count, more) in self.reached.iter_mut().zip(other.reached) {
+            *count += more;
+        }
         self.shown.extend(other.shown);
         self.shown.sort();
         self.shown.truncate(SHOWN);
@@ -71,7 +112,7 @@ impl Found {
 }
 
 fn part(entry: &dyn Compared, seed: u64, cases: u64, part: u64) -> Found {
-    let mut found = Found::default();
+    let mut found = Found::new(entry);
     let mut random = Random::new(seed, part);
     for _ in 0..cases / PARTS + u64::from(part <= cases % PARTS) {
         found.case(part, entry.random(&mut random));
@@ -79,10 +120,21 @@ fn part(entry: &dyn Compared, seed: u64, cases: u64, part: u64) -> Found {
     found
 }
 
-/// Compares the limit cases and the random ones. Prints a line, and answers whether all agree.
+/// Prints how many of the random cases reached each branch, and answers whether each was reached,
+/// or the cases are too few for that.
+fn print_reached(entry: &dyn Compared, reached: &[u64], cases: u64) -> bool {
+    for (name, count) in entry.branches().iter().zip(reached) {
+        let missed = if *count > 0 { "" } else { ": NOT REACHED" };
+        println!("    {count:>12} {name}{missed}");
+    }
+    cases < ENOUGH || reached.iter().all(|&count| count > 0)
+}
+
+/// Compares the limit cases and the random ones. Prints a line, and one for each branch, and says
+/// whether all agree and every branch was reached.
 pub fn compare(entry: &dyn Compared, seed: u64, cases: u64) -> bool {
     let cases = cases.div_ceil(entry.weight());
-    let mut limits = Found::default();
+    let mut limits = Found::new(entry);
     for case in entry.limits() {
         limits.case(0, case);
     }
@@ -104,7 +156,7 @@ pub fn compare(entry: &dyn Compared, seed: u64, cases: u64) -> bool {
     });
     let found = found.into_inner().unwrap();
     println!(
-        "{:<16} {:>12} compared {:>12} different",
+        "{:<22} {:>12} compared {:>12} different",
         entry.name(),
         found.compared,
         found.differences
@@ -112,5 +164,5 @@ pub fn compare(entry: &dyn Compared, seed: u64, cases: u64) -> bool {
     for (_, _, text) in &found.shown {
         println!("    {text}");
     }
-    found.differences == 0
+    print_reached(entry, &found.reached, cases) && found.differences == 0
 }

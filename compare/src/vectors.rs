@@ -5,6 +5,7 @@ use crate::recordings::HOP;
 use crate::transcript::envelope::{Envelope, TRANSCRIPT_RATE};
 use crate::transcript::loops::collapse_loops;
 use crate::transcript::onsets::{hand_back_tails, snap_ends, snap_onsets};
+use crate::vectors_lists;
 
 /// Frames of a row's recording.
 const FRAMES: usize = 64;
@@ -117,7 +118,7 @@ fn bits(levels: &Envelope) -> u64 {
     loud.map(|frame| 1 << frame).sum()
 }
 
-fn row(kind: char, a: u64, b: u64, r: u64) {
+pub fn row(kind: char, a: u64, b: u64, r: u64) {
     println!("{kind} {a:016X} {b:016X} {r:016X}");
 }
 
@@ -174,4 +175,5 @@ pub fn write() {
         .for_each(|&heard| moved('D', heard, handed_back));
     // one step past the Rust's answer
     moved('W', PLANTED, |start, levels| onset(start, levels) + 1);
+    vectors_lists::write();
 }

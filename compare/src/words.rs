@@ -1,11 +1,17 @@
-//! Words, as they are lent to the library: five lists, one for each of a word's numbers.
+//! Words, as they are lent to the library: five lists, one for each of a word's numbers. Spans are
+//! three.
 
 use crate::check::{HeardWord, Text};
 use crate::inputs::Random;
-use crate::places::Places;
+use crate::places::{Bits, Places};
+use crate::text::Cue;
 
 /// The most words that are taken.
 pub const MAX_WORDS: usize = 4096;
+/// The most spans that are taken.
+pub const MAX_SPANS: usize = 4096;
+/// The most words that a span may take.
+pub const MAX_COUNT: u32 = 4096;
 /// Times are taken up to this one, of either sign.
 pub const LAST: f64 = 7200.0;
 /// The most letters of a word.
@@ -51,18 +57,45 @@ impl Lent {
 
     /// What is wrong with the lists, which should be as they were.
     pub fn stay(&self, before: &Lent) -> Option<String> {
-        let of = |list: &Places, was: &Places| list.hold(was.bits().iter().copied());
-        let of_numbers =
-            |list: &Places<u32>, was: &Places<u32>| list.hold(was.bits().iter().copied());
-        named("starts", of(&self.starts, &before.starts))
-            .or_else(|| named("ends", of(&self.ends, &before.ends)))
-            .or_else(|| named("letters", of_numbers(&self.letters, &before.letters)))
-            .or_else(|| named("units", of_numbers(&self.units, &before.units)))
-            .or_else(|| named("keys", of_numbers(&self.keys, &before.keys)))
+        named("starts", same(&self.starts, &before.starts))
+            .or_else(|| named("ends", same(&self.ends, &before.ends)))
+            .or_else(|| named("letters", same(&self.letters, &before.letters)))
+            .or_else(|| named("units", same(&self.units, &before.units)))
+            .or_else(|| named("keys", same(&self.keys, &before.keys)))
     }
 }
 
-fn named(list: &str, wrong: Option<String>) -> Option<String> {
+/// Spans that are lent, with the number of words that each takes.
+#[derive(Clone)]
+pub struct Spans {
+    pub starts: Places,
+    pub ends: Places,
+    pub counts: Places<u32>,
+}
+
+impl Spans {
+    pub fn new(spans: &[Cue]) -> Spans {
+        Spans {
+            starts: Places::holding(spans.iter().map(|s| s.start.to_bits())),
+            ends: Places::holding(spans.iter().map(|s| s.end.to_bits())),
+            counts: Places::holding(spans.iter().map(|s| s.text.count)),
+        }
+    }
+
+    /// What is wrong with the lists, which should be as they were.
+    pub fn stay(&self, before: &Spans) -> Option<String> {
+        named("span starts", same(&self.starts, &before.starts))
+            .or_else(|| named("span ends", same(&self.ends, &before.ends)))
+            .or_else(|| named("span counts", same(&self.counts, &before.counts)))
+    }
+}
+
+/// What is wrong with a list, which should be as it was.
+pub fn same<T: Bits>(list: &Places<T>, was: &Places<T>) -> Option<String> {
+    list.hold(was.bits().iter().copied())
+}
+
+pub fn named(list: &str, wrong: Option<String>) -> Option<String> {
     wrong.map(|text| format!("{list}, {text}"))
 }
 
@@ -91,4 +124,38 @@ pub fn near(t: f64, random: &mut Random) -> f64 {
     };
     let t = (0..steps.abs()).fold(t, |t, _| step(t));
     t.clamp(-LAST, LAST)
+}
+
+/// A time as it is taken.
+pub fn taken(t: f64) -> f64 {
+    t.clamp(-LAST, LAST)
+}
+
+/// A time as it is taken, or, sometimes, one of its neighbours.
+pub fn beside(t: f64, random: &mut Random) -> f64 {
+    let other = near(t, random);
+    taken(random.of(&[t, t, other]))
+}
+
+/// So many thousandths of a second, or fewer.
+pub fn up_to(thousandths: u64, random: &mut Random) -> f64 {
+    random.below(thousandths + 1) as f64 / 1000.0
+}
+
+/// Where the times of a list begin.
+pub fn origin(random: &mut Random) -> f64 {
+    let (early, late) = (up_to(5000, random), up_to(7_200_000, random));
+    let far = random.of(&[LAST - 2.0, -LAST, -3.0]);
+    random.of(&[0.0, -0.0, early, early, early, late, far])
+}
+
+/// Whether the times of words have -0 among them, the farthest time, and a subnormal one.
+pub fn odd_times(words: &[HeardWord]) -> [bool; 3] {
+    let any = |is: fn(f64) -> bool| words.iter().any(|w| is(w.start) || is(w.end));
+    let negative_zero = any(|t| t == 0.0 && t.is_sign_negative());
+    [
+        negative_zero,
+        any(|t| t.abs() == LAST),
+        any(f64::is_subnormal),
+    ]
 }

@@ -12,9 +12,10 @@ use crate::stages::STAGES;
 use crate::transcript::envelope::{Envelope, frame_seconds};
 use crate::transcript::loops::collapse_loops;
 use crate::words::{LAST, Lent, MAX_WORDS};
+use crate::words_alone;
 
 /// The end of the hour.
-const HOUR: f64 = 3600.0;
+pub const HOUR: f64 = 3600.0;
 
 /// A word of eight letters, with a key of its own.
 fn word(at: usize, start: f64, end: f64) -> HeardWord {
@@ -27,7 +28,7 @@ fn word(at: usize, start: f64, end: f64) -> HeardWord {
 }
 
 /// As many words as are taken.
-fn each(times: impl Fn(usize) -> (f64, f64)) -> Vec<HeardWord> {
+pub fn each(times: impl Fn(usize) -> (f64, f64)) -> Vec<HeardWord> {
     let word = |at| {
         let (start, end) = times(at);
         word(at, start, end)
@@ -75,7 +76,7 @@ fn ordinary(heard: &Envelope, random: &mut Random) -> Vec<HeardWord> {
 
 /// The two sides in turn, each on a copy of the words that is made before its time begins, `runs`
 /// times after one run that is not counted; prints the medians.
-fn row(
+pub fn row(
     name: &str,
     runs: usize,
     words: &[HeardWord],
@@ -175,7 +176,8 @@ pub fn bench(seed: u64, runs: usize, heard: &Envelope) {
         "{:<36} {:>10} {:>10} {:>8}",
         "", "ours", "the Rust's", "ratio"
     );
-    let words = ordinary(heard, &mut Random::new(seed, 0));
+    let mut random = Random::new(seed, 0);
+    let words = ordinary(heard, &mut random);
     let mut threes = words.clone();
     for (at, word) in threes.iter_mut().enumerate() {
         word.text.key = at as u32 / 3;
@@ -189,4 +191,5 @@ pub fn bench(seed: u64, runs: usize, heard: &Envelope) {
     slow_onsets(runs, &loud);
     stage(2, "ordinary", runs, &words, heard);
     slow_ends(runs, [&loud, &none]);
+    words_alone::bench(runs, &words, &mut random);
 }

@@ -1,50 +1,104 @@
 //! What is compared of calls that take words and have to refuse: document 01's number, the first of
 //! those that apply, and every lent place as it was.
 
-use crate::faults::{FAULTS, Fault, Given};
-use crate::ffi::{self, Left, Over};
+use crate::faults::{FAULTS, Fault, Given, Loan};
+use crate::ffi::{self, Left, Over, Placed};
 use crate::inputs::Random;
 use crate::places::Places;
 use crate::recordings::{HOP, MAX_SAMPLES};
-use crate::report::{Case, Compared};
-use crate::words::{LAST, Lent, MAX_LETTERS, MAX_UNITS, MAX_WORDS};
+use crate::report::{Case, Compared, Reached};
+use crate::words::{LAST, Lent, MAX_COUNT, MAX_LETTERS, MAX_SPANS, MAX_UNITS, MAX_WORDS, Spans};
 
 pub struct Refused;
 
-/// A call that takes words: whether it also takes a sound, and a duration.
+/// A call that takes words, and what else it takes.
 struct Call {
     name: &'static str,
+    /// Whether it takes a sound.
     hears: bool,
+    /// Whether it takes a duration.
     lasts: bool,
-    ours: fn(&mut Lent, Over, f64) -> Left,
+    /// Whether it takes a limit.
+    ends: bool,
+    /// Whether it takes spans, and phrase places.
+    places: bool,
+    /// The refusals that it knows.
+    refusals: &'static [u32],
+    ours: fn(&mut Loan, &Given) -> Left,
 }
 
-const CALLS: [Call; 4] = [
-    Call {
-        name: "collapse_loops",
-        hears: false,
-        lasts: false,
-        ours: |words, _, _| ffi::collapse_loops(words),
-    },
+/// A call that takes words alone.
+const WORDS: Call = Call {
+    name: "collapse_loops",
+    hears: false,
+    lasts: false,
+    ends: false,
+    places: false,
+    refusals: &[3, 4, 1, 2],
+    ours: |loan, _| ffi::collapse_loops(&mut loan.words),
+};
+
+static CALLS: [Call; 6] = [
+    WORDS,
     Call {
         name: "hand_back_tails",
         hears: true,
-        lasts: false,
-        ours: |words, over, _| refusing(ffi::hand_back_tails(words, over)),
+        refusals: &[3, 4, 1, 2, 7],
+        ours: |loan, given| refusing(ffi::hand_back_tails(&mut loan.words, given.over())),
+        ..WORDS
     },
     Call {
         name: "snap_onsets",
         hears: true,
-        lasts: false,
-        ours: |words, over, _| refusing(ffi::snap_onsets(words, over)),
+        refusals: &[3, 4, 1, 2, 7],
+        ours: |loan, given| refusing(ffi::snap_onsets(&mut loan.words, given.over())),
+        ..WORDS
     },
     Call {
         name: "snap_ends",
         hears: true,
+        refusals: &[3, 4, 1, 2, 7],
         lasts: true,
-        ours: |words, over, duration| refusing(ffi::snap_ends(words, over, duration)),
+        ours: |loan, given| {
+            let (words, over) = (&mut loan.words, given.over());
+            refusing(ffi::snap_ends(words, over, given.duration))
+        },
+        ..WORDS
+    },
+    Call {
+        name: "even_out",
+        ends: true,
+        ours: |loan, given| refusing(ffi::even_out(&mut loan.words, given.limit)),
+        ..WORDS
+    },
+    Call {
+        name: "align_phrases",
+        places: true,
+        refusals: &[3, 4, 1, 2, 6],
+        ours: |loan, _| place(loan),
+        ..WORDS
     },
 ];
+
+/// Every call with each of its refusals, by their names: these are the branches.
+fn refusals() -> impl Iterator<Item = (&'static str, u32)> {
+    let each = |call: &'static Call| call.refusals.iter().map(|&number| (call.name, number));
+    CALLS.iter().flat_map(each)
+}
+
+/// The answer of placing, which finds nothing.
+fn place(loan: &mut Loan) -> Left {
+    let Loan {
+        words,
+        spans,
+        phrases,
+    } = loan;
+    let Placed { refusal, count } = ffi::align_phrases(words, spans, phrases);
+    Left {
+        count,
+        ..refusing(refusal)
+    }
+}
 
 /// The answer of a refusal: its number, and nothing found or left.
 fn refusing(refusal: u32) -> Left {
@@ -60,43 +114,92 @@ fn outside(bits: &u64) -> bool {
     !(-LAST..=LAST).contains(&t)
 }
 
+fn any_outside(starts: &Places, ends: &Places) -> bool {
+    let lent = |list: &Places| list.bits()[..list.lent()].iter().any(outside);
+    lent(starts) || lent(ends)
+}
+
+/// Whether the lists of words differ in length.
+fn words_differ(words: &Lent) -> bool {
+    let n = words.starts.lent();
+    let numbers = [&words.letters, &words.units, &words.keys];
+    words.ends.lent() != n || numbers.iter().any(|list| list.lent() != n)
+}
+
+/// Whether the lists of spans differ in length.
+fn spans_differ(spans: &Spans) -> bool {
+    let n = spans.starts.lent();
+    spans.ends.lent() != n || spans.counts.lent() != n
+}
+
+/// Whether a number in the list is more than is taken, or less.
+fn any_off(list: &Places<u32>, least: u32, most: u32) -> bool {
+    let off = |&x: &u32| x < least || x > most;
+    list.bits()[..list.lent()].iter().any(off)
+}
+
 impl Given {
+    fn over(&self) -> Over<'_> {
+        Over {
+            levels: &self.levels,
+            floor: self.floor,
+            count: self.count,
+        }
+    }
+
+    /// Whether there is too much of something.
+    fn too_many(&self, call: &Call) -> bool {
+        let Loan { words, spans, .. } = &self.loan;
+        let too_many_spans =
+            spans.starts.lent() > MAX_SPANS || any_off(&spans.counts, 0, MAX_COUNT);
+        words.starts.lent() > MAX_WORDS
+            || call.hears && self.count > MAX_SAMPLES
+            || call.places && too_many_spans
+    }
+
+    /// Whether something is no time.
+    fn bad_time(&self, call: &Call) -> bool {
+        let Loan { words, spans, .. } = &self.loan;
+        let no_limit = self.limit != f64::INFINITY && outside(&self.limit.to_bits());
+        any_outside(&words.starts, &words.ends)
+            || call.lasts && outside(&self.duration.to_bits())
+            || call.ends && no_limit
+            || call.places && any_outside(&spans.starts, &spans.ends)
+    }
+
     /// Document 01's refusal; 0 where there is none.
     fn refusal(&self, call: &Call) -> u32 {
-        let (starts, ends) = (&self.words.starts, &self.words.ends);
-        let numbers = [&self.words.letters, &self.words.units, &self.words.keys];
-        let n = starts.lent();
-        let other = |list: &&Places<u32>| list.lent() != n;
-        if ends.lent() != n || numbers.iter().any(other) {
+        let Loan {
+            words,
+            spans,
+            phrases,
+        } = &self.loan;
+        if words_differ(words) || call.places && spans_differ(spans) {
             return 3;
         }
-        if n > MAX_WORDS || call.hears && self.count > MAX_SAMPLES {
+        if self.too_many(call) {
             return 4;
         }
-        let mut times = starts.bits()[..n].iter().chain(&ends.bits()[..n]);
-        if times.any(outside) || call.lasts && outside(&self.duration.to_bits()) {
+        if self.bad_time(call) {
             return 1;
         }
-        let over = |list: &Places<u32>, most| list.bits()[..n].iter().any(|&x| x < 1 || x > most);
-        if over(numbers[0], MAX_LETTERS) || over(numbers[1], MAX_UNITS) {
+        if any_off(&words.letters, 1, MAX_LETTERS) || any_off(&words.units, 1, MAX_UNITS) {
             return 2;
         }
-        7 * u32::from(call.hears && self.levels.len() != self.count / HOP)
+        if call.hears && self.levels.len() != self.count / HOP {
+            return 7;
+        }
+        6 * u32::from(call.places && phrases.lent() < words.starts.lent())
     }
 
     /// What is wrong with the answer of a call that has to refuse, or with what it left.
     fn differs(&self, call: &Call, refusal: u32) -> Option<String> {
-        let mut words = self.words.clone();
-        let over = Over {
-            levels: &self.levels,
-            floor: self.floor,
-            count: self.count,
-        };
-        let ours = (call.ours)(&mut words, over, self.duration);
+        let mut loan = self.loan.clone();
+        let ours = (call.ours)(&mut loan, self);
         if ours != refusing(refusal) {
             return Some(format!("ours {ours:?}, and it is {refusal}"));
         }
-        words.stay(&self.words)
+        loan.stay(&self.loan)
     }
 
     /// The calls that have to refuse this.
@@ -104,11 +207,19 @@ impl Given {
         let calls = CALLS.iter().map(|call| (call, self.refusal(call)));
         let calls: Vec<(&Call, u32)> = calls.filter(|(_, refusal)| *refusal > 0).collect();
         let differs = |&(call, refusal): &(&Call, u32)| {
-            let (name, n) = (call.name, self.words.starts.lent());
+            let (name, n) = (call.name, self.loan.words.starts.lent());
             let text = self.differs(call, refusal)?;
             Some(format!("{name}, {n} starts: {text}"))
         };
-        Case::new(calls.len(), calls.iter().find_map(differs))
+        let mut reached = Reached::default();
+        for (branch, (name, number)) in refusals().enumerate() {
+            let is_it = |&(call, refusal): &(&Call, u32)| (call.name, refusal) == (name, number);
+            reached.add(branch, calls.iter().any(is_it));
+        }
+        Case {
+            reached,
+            ..Case::new(calls.len(), calls.iter().find_map(differs))
+        }
     }
 }
 
@@ -128,6 +239,11 @@ impl Compared for Refused {
 
     fn weight(&self) -> u64 {
         100
+    }
+
+    fn branches(&self) -> Vec<String> {
+        let name = |(name, number)| format!("{name} refused with {number}");
+        refusals().map(name).collect()
     }
 
     /// Each fault alone, and each two, of 0 to 5 words.

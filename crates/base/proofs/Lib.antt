@@ -1,6 +1,8 @@
 -- Laws that the crates' proofs share.
 pub mod Loops
 pub mod Lists
+pub mod Parts
+pub mod Cleared
 pub mod First
 pub mod Compare
 pub mod Bits

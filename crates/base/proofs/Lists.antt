@@ -1,4 +1,4 @@
--- A list of which the part from a to e was lent, and came back as ys: its length, and its elements before, in and after the part.
+-- A list of which the part from a to e was lent, and came back as ys: its length, and its elements before and after the part.
 -- Assumes nothing.
 use mathlib.Core.Path.{_≡_, sym, ap, _∙_}
 use mathlib.Core.List.{List, _++_}
@@ -6,10 +6,11 @@ use Prim.Native.Nat.{ℕ, _+_, _-_, _≤_, _<_}
 use native.Mathlib.Omega.{arith}
 use lib.ListN.{length, take, drop, getD, length-append, length-drop, List·getD-append}
 use lib.Seq.{length-take-le, getD-append-add, getD-take, getD-drop}
+use Rattle.base.specs.Words.{withPart}
 
 module _ {A : Type 0} (xs ys : List A) (a e : ℕ) (from : a ≤ e) (to : e ≤ length xs) (lent : length ys ≡ e - a) where
   abbrev pub joined : List A
-  joined = take a xs ++ (ys ++ drop (e - a) (drop a xs))
+  joined = withPart a e xs ys
 
   front : length (take a xs) ≡ a
   front = length-take-le a xs (omega arith)
@@ -23,9 +24,6 @@ module _ {A : Type 0} (xs ys : List A) (a e : ℕ) (from : a ≤ e) (to : e ≤ 
 
   pub part-before : (i : ℕ) (d : A) → i < a → getD joined i d ≡ getD xs i d
   part-before i d h = List·getD-append (take a xs) (ys ++ drop (e - a) (drop a xs)) d i (omega (arith, front)) ∙ getD-take a xs i d h
-
-  pub part-inside : (i : ℕ) (d : A) → i < e - a → getD joined (a + i) d ≡ getD ys i d
-  part-inside i d h = rest-at i d ∙ List·getD-append ys (drop (e - a) (drop a xs)) d i (omega arith)
 
   pub part-after : (i : ℕ) (d : A) → getD joined (e + i) d ≡ getD xs (e + i) d
   part-after i d =

@@ -2,19 +2,20 @@
 -- So a search from a negative frame is one from frame 0. Assumes nothing.
 use Prim.Native.Nat.{ℕ, zero, suc, _+_, _-_, _<_, _≤_, min, max}
 use mathlib.Core.Path.{_≡_, refl, sym, ap, _∙_}
-use mathlib.Core.Bool.{Bool, true, false}
+use mathlib.Core.Bool.{Bool, true, false, cond}
 use mathlib.Core.List.{List, [], _∷_, _++_}
 use lib.ListN.{length, drop, getD, set, length-append, drop-of-length-le}
 use lib.Seq.{drop-cons, set-at, append-snoc}
 use native.Mathlib.Omega.{arith}
-use native.Mathlib.Nat.{sub-zero}
+use mathlib.Core.Logic.{inl, inr}
+use native.Mathlib.Nat.{eq-or-lt-of-le, sub-zero}
 use native.Mathlib.Numerals.{add-one}
 use lib.IntN.{ℤ, pos, negsuc, sucℤ, predℤ, _-ℤ_, subℕ, -ℤ-one, -ℤ-+ℤ-cancel}
 use lib.Dec.{ltb}
 use lib.Signed.{ltZ}
 use borrow.Author.Tests.{le-ltb, ltb-true, ltb-false}
 use Rattle.base.specs.Whole.{toNat, minZ, maxZ}
-use Rattle.base.specs.Loop.{Turn, on, out, each, fold, table, run, range, runBack, rangeBack}
+use Rattle.base.specs.Loop.{Turn, on, out, each, fold, table, run, range, runBack, rangeBack, down, up}
 
 pub subℕ-nat : (a b : ℕ) → toNat (subℕ a b) ≡ a - b
 subℕ-nat a b = go (ltb a b) refl where
@@ -271,3 +272,96 @@ module _ {S : Type 0} (f : ℤ → S → Turn S) (P : S → Type 0) (Q : ℤ →
   back-holds down zero k (out s) q p = p
   back-holds down (suc n) k (out s) q p = p
   back-holds down (suc n) k (on s) q p = back-holds down n (predℤ k) (f k s) (down k q) (step k s q p)
+
+-- ---- a search downwards stands at a, a search upwards to e stands at b: what is left of it finds what the whole finds
+module _ (p : ℕ → Bool) where
+  pub down-next : (a : ℕ) → 0 < a → p a ≡ true → down p a ≡ down p (a - 1)
+  unfolding down
+  down-next (suc a) h t = let z : suc a - 1 ≡ a = omega arith in rw (t, z)
+  down-next zero h t = absurd (omega arith)
+
+  pub down-stop : (a : ℕ) → p a ≡ false → down p a ≡ a
+  unfolding down
+  down-stop zero t = refl
+  down-stop (suc a) t = rw t
+
+  pub down-done : (a : ℕ) → a ≤ 0 → down p a ≡ a
+  unfolding down
+  down-done a h = let z : a ≡ 0 = omega arith in rw z
+
+  pub down-le : (a : ℕ) → down p a ≤ a
+  unfolding down
+  down-le zero = omega arith
+  down-le (suc a) = go (p (suc a)) (down-le a) where
+    go : (t : Bool) {m : ℕ} → m ≤ a → cond t m (suc a) ≤ suc a
+    go true h = omega arith
+    go false h = omega arith
+
+  pub up-next : (e b : ℕ) → b < e → p b ≡ true → up p (e - b) b ≡ up p (e - (b + 1)) (b + 1)
+  unfolding up
+  up-next e b h t = let z : e - b ≡ suc (e - (b + 1)) = omega arith in rw (z, add-one, t)
+
+  pub up-stop : (e b : ℕ) → p b ≡ false → up p (e - b) b ≡ b
+  unfolding up
+  up-stop e b t = go (e - b) where
+    go : (n : ℕ) → up p n b ≡ b
+    go zero = refl
+    go (suc n) = rw t
+
+  pub up-done : (e b : ℕ) → e ≤ b → up p (e - b) b ≡ b
+  unfolding up
+  up-done e b h = let z : e - b ≡ 0 = omega arith in rw z
+
+  pub up-ge : (n b : ℕ) → b ≤ up p n b
+  unfolding up
+  up-ge zero b = omega arith
+  up-ge (suc n) b = go (p b) (up-ge n (suc b)) where
+    go : (t : Bool) {m : ℕ} → suc b ≤ m → b ≤ cond t m b
+    go true h = omega arith
+    go false h = omega arith
+
+  pub up-le : (n b : ℕ) → up p n b ≤ b + n
+  unfolding up
+  up-le zero b = omega arith
+  up-le (suc n) b = go (p b) (up-le n (suc b)) where
+    go : (t : Bool) {m : ℕ} → m ≤ suc b + n → cond t m b ≤ b + suc n
+    go true h = omega arith
+    go false h = omega arith
+
+  -- ---- what a search went past, the test holds of
+  pub up-seen : (n b i : ℕ) → b ≤ i → i < up p n b → p i ≡ true
+  unfolding up
+  up-seen zero b i h k = absurd (omega arith)
+  up-seen (suc n) b i h k = go (p b) refl k (up-seen n (suc b) i) where
+    go : (t : Bool) → p b ≡ t → i < cond t (up p n (suc b)) b → (suc b ≤ i → i < up p n (suc b) → p i ≡ true) → p i ≡ true
+    go true t l more = elim (eq-or-lt-of-le h) [
+      | inl e ↦ rw (← e) t
+      | inr m ↦ more m l
+    ]
+    go false t l more = absurd (omega arith)
+
+  pub down-seen : (a i : ℕ) → i ≤ a → down p a < i → p i ≡ true
+  unfolding down
+  down-seen zero i h k = absurd (omega arith)
+  down-seen (suc a) i h k = go (p (suc a)) refl k (down-seen a i) where
+    go : (t : Bool) → p (suc a) ≡ t → cond t (down p a) (suc a) < i → (i ≤ a → down p a < i → p i ≡ true) → p i ≡ true
+    go true t l more = elim (eq-or-lt-of-le h) [
+      | inl e ↦ rw e t
+      | inr m ↦ more (omega arith) l
+    ]
+    go false t l more = absurd (omega arith)
+
+  -- ---- where a search upwards ends early, the test fails
+  pub up-found : (n b : ℕ) → up p n b < b + n → p (up p n b) ≡ false
+  unfolding up
+  up-found zero b h = absurd (omega arith)
+  up-found (suc n) b h = go (p b) refl (up-found n (suc b)) h where
+    go : (t : Bool) → p b ≡ t → (up p n (suc b) < suc b + n → p (up p n (suc b)) ≡ false) → cond t (up p n (suc b)) b < b + suc n → p (cond t (up p n (suc b)) b) ≡ false
+    go true e more h = more (omega arith)
+    go false e more h = e
+
+-- the last turn of a loop
+pub each-last : {S : Type 0} (f : ℕ → S → S) (n i : ℕ) (s : S) → each f (suc n) i s ≡ f (i + n) (each f n i s)
+unfolding each
+each-last f zero i s = let z : i + 0 ≡ i = omega arith in rw z
+each-last f (suc n) i s = let z : i + suc n ≡ suc i + n = omega arith in rw z (each-last f n (suc i) (f i s))

@@ -2,5 +2,6 @@
 pub mod Whole
 pub mod Loop
 pub mod Words
+pub mod Parts
 pub mod Floats
 pub mod Refusals

@@ -1,5 +1,6 @@
 -- Rust's counting loops and searches as definitions. Each clause has one recursive call, so that they compute. Assumes nothing.
 use Prim.Native.Nat.{ℕ, zero, suc}
+use mathlib.Core.Bool.{Bool, cond}
 use mathlib.Core.List.{List, [], _∷_}
 use lib.IntN.{ℤ, pos, sucℤ, predℤ, _+ℤ_, _-ℤ_}
 use Rattle.base.specs.Whole.{toNat}
@@ -46,3 +47,13 @@ module _ {S : Type 0} where
   -- ---- let mut k = a; while k >= b { f; k -= 1; }
   abbrev pub rangeBack : (ℤ → S → Turn S) → ℤ → ℤ → S → S
   rangeBack f a b s = runBack f (toNat (a +ℤ pos 1 -ℤ b)) a (on s)
+
+-- ---- while a > 0 && p(a) { a -= 1; }
+unfoldable pub down : (ℕ → Bool) → ℕ → ℕ
+down p zero = zero
+down p (suc a) = cond (p (suc a)) (down p a) (suc a)
+
+-- ---- while p(b) { b += 1; }, n times at most
+unfoldable pub up : (ℕ → Bool) → ℕ → ℕ → ℕ
+up p zero b = b
+up p (suc n) b = cond (p b) (up p n (suc b)) b

@@ -1,7 +1,10 @@
 // What every part shares: the refusals of document 01 with their numbers, and a word's times.
 ghost use mathlib.Core.Path.{_≡_};
-ghost use Prim.Native.Nat.{min};
+ghost use Prim.Native.Nat.{min, _≤_};
+ghost use lib.ListN.{length};
 ghost use Rattle.base.specs.Refusals.{number as numberOf};
+ghost use Rattle.base.specs.Words.{words, wordsInPlaces};
+ghost use Rattle.base.specs.Parts.{OneLength, firstWords};
 
 // Why a call refuses.
 pub enum Refusal {
@@ -71,4 +74,27 @@ pub fn least(a: usize, b: usize) -> usize
         return b;
     }
     a
+}
+
+// Makes every place of the words from `count` on zero.
+pub fn clear(
+    starts: &mut [f64],
+    ends: &mut [f64],
+    letters: &mut [u32],
+    units: &mut [u32],
+    keys: &mut [u32],
+    count: usize,
+)
+    requires { ⌜ (OneLength (length (now keys)) (words (now starts) (now ends) (now letters) (now units) (now keys))) × (count ≤ length (now keys)) ⌝ }
+    ensures { λ _. ⌜ words (now (starts .exit)) (now (ends .exit)) (now (letters .exit)) (now (units .exit)) (now (keys .exit)) ≡ wordsInPlaces (length (now (keys .entry))) (firstWords count (words (now (starts .entry)) (now (ends .entry)) (now (letters .entry)) (now (units .entry)) (now (keys .entry)))) ⌝ }
+{
+    let mut i = count;
+    while i < keys.len() {
+        starts[i] = 0.0;
+        ends[i] = 0.0;
+        letters[i] = 0;
+        units[i] = 0;
+        keys[i] = 0;
+        i += 1;
+    }
 }

@@ -63,9 +63,9 @@ fixed-under b (fin s m e) B h = go (leb (10 ^ 21 * down e) (m * up e))
     cross X E n P h k = le-of-mul-le-mul-right {k = E} (omega arith) P
 
     go : (t : Bool) → Under (b + 1) (cond t (fin s m e) (round binary64 (s && ltb 0 m) (nearestUp (m * up e * 1000) (down e)) 1000))
-    go true = under-more b (b + 1) (fin s m e) (omega arith) h
+    go true = under-more 64 b (b + 1) (fin s m e) (omega arith) h
     go false =
-        round-under (s && ltb 0 m) (nearestUp (m * up e * 1000) (down e)) 1000 (b + 1) (lit< tt) (omega arith)
+        round-under 6 (lit≤ tt) (s && ltb 0 m) (nearestUp (m * up e * 1000) (down e)) 1000 (b + 1) (lit< tt) (omega arith)
         (cross (m * up e) (down e) (nearestUp (m * up e * 1000) (down e)) (down-pos e) h (nearestUp-bounds (m * up e * 1000) (down e) (down-pos e) .0))
 
 -- ---- a word's share of a pair is between 0 and 1
@@ -83,7 +83,7 @@ share-part own other l h k =
 edge-under : (b : ℕ) (start nextEnd : Float) (own other : ℕ) → b < 2 ^ 40 → Under b start → Under b nextEnd → 1 ≤ own → own ≤ 10000 → other ≤ 10000 → Under (b + growth) (pairEdge start nextEnd own other)
 unfolding pairEdge
 edge-under b start nextEnd own other B h k l m n =
-    under-more (b + 8 + 1 + 1) (b + growth) (pairEdge start nextEnd own other) (omega arith)
+    under-more 64 (b + 8 + 1 + 1) (b + growth) (pairEdge start nextEnd own other) (omega arith)
     (fixed-under (b + 8 + 1) (start ⊕ (last ⊖ start) ⊗ (num own ⊘ (num own ⊕ num other))) (omega arith)
     (part-way (b + 8) start last (num own ⊘ (num own ⊕ num other)) (omega arith) (wider start h) last-under (share-part own other l m n)))
   where
@@ -91,17 +91,17 @@ edge-under b start nextEnd own other B h k l m n =
     last = jsMax nextEnd (start ⊕ pairSpan)
 
     wider : (x : Float) → Under b x → Under (b + 8) x
-    wider x u = under-more b (b + 8) x (omega arith) u
+    wider x u = under-more 64 b (b + 8) x (omega arith) u
 
     last-under : Under (b + 8) last
-    last-under = max-under (b + 8) nextEnd (start ⊕ pairSpan) (wider nextEnd k) (add-under b 8 start pairSpan (omega arith) h span-under)
+    last-under = max-under 64 (b + 8) nextEnd (start ⊕ pairSpan) (wider nextEnd k) (add-under 6 (lit≤ tt) b 8 start pairSpan (omega arith) h span-under)
 
 module _ (row : List Bool) (b : ℕ) (short : length row ≤ 360000) (large : 230400 ≤ b) (B : b < 2 ^ 40) where
   find-turn : (k : ℤ) (s : Float) → Unit {0} → Under b s → Holds (Under b) (findTurn row k s)
   find-turn k s u h = go (loud row k) refl
     where
       go : (t : Bool) → loud row k ≡ t → Holds (Under b) (cond t (out (jsMax s (frameSeconds k))) (on s))
-      go true t = max-under b s (frameSeconds k) h (hour-under b k large (let l = loud-in row k t in omega arith))
+      go true t = max-under 64 b s (frameSeconds k) h (hour-under b k large (let l = loud-in row k t in omega arith))
       go false t = h
 
   start-under : (start nextEnd : Float) → Under b start → Under b (pairStart row start nextEnd)
@@ -157,7 +157,7 @@ module _ (row : List Bool) (b : ℕ) (short : length row ≤ 360000) (large : 23
   trim-under : (sound : SoundEnd) (limit : Float) (w : Times) → SoundUnder sound → Under b limit → Under b (w .start) → Under b (w .end)
       → Under (b + growth) (trimmed sound limit w .start) × Under (b + growth) (trimmed sound limit w .end)
   unfolding trimmed
-  trim-under NoSound limit w h l s e = (under-more b (b + growth) (w .start) (omega arith) s, under-more b (b + growth) (w .end) (omega arith) e)
+  trim-under NoSound limit w h l s e = (under-more 64 b (b + growth) (w .start) (omega arith) s, under-more 64 b (b + growth) (w .end) (omega arith) e)
   trim-under (Ends sound) limit w h l s e = go (lt (sound ⊕ loose) (w .end) || lt (w .end ⊖ w .start) noLength)
     where
       cut : Float
@@ -165,13 +165,13 @@ module _ (row : List Bool) (b : ℕ) (short : length row ≤ 360000) (large : 23
 
       cut-under : Under (b + growth) cut
       cut-under =
-          max-under (b + growth) (w .start ⊕ noLength) (jsMin sound limit)
-          (under-more (b + 4) (b + growth) (w .start ⊕ noLength) (omega arith) (add-under b 4 (w .start) noLength (omega arith) s length-under))
-          (under-more b (b + growth) (jsMin sound limit) (omega arith) (min-under b sound limit h l))
+          max-under 64 (b + growth) (w .start ⊕ noLength) (jsMin sound limit)
+          (under-more 64 (b + 4) (b + growth) (w .start ⊕ noLength) (omega arith) (add-under 6 (lit≤ tt) b 4 (w .start) noLength (omega arith) s length-under))
+          (under-more 64 b (b + growth) (jsMin sound limit) (omega arith) (min-under 64 b sound limit h l))
 
       go : (t : Bool) → Under (b + growth) (cond t (times (w .start) cut) w .start) × Under (b + growth) (cond t (times (w .start) cut) w .end)
-      go true = (under-more b (b + growth) (w .start) (omega arith) s, cut-under)
-      go false = (under-more b (b + growth) (w .start) (omega arith) s, under-more b (b + growth) (w .end) (omega arith) e)
+      go true = (under-more 64 b (b + growth) (w .start) (omega arith) s, cut-under)
+      go false = (under-more 64 b (b + growth) (w .start) (omega arith) s, under-more 64 b (b + growth) (w .end) (omega arith) e)
 
   module _ (duration : Float) (d : Under b duration) where
     end-under : (next : NextStart) (w : Times) → NextUnder next → Under b (w .start) → Under b (w .end)
@@ -186,7 +186,7 @@ module _ (row : List Bool) (b : ℕ) (short : length row ≤ 360000) (large : 23
         last : ℤ
         last = lastLoud edgeQuiet row (frameAt (w .start)) bound
 
-    next-under : (starts : List Float) (i : ℕ) → AllUnder b starts → NextUnder (nextStart starts i)
+    next-under : (starts : List Float) (i : ℕ) → AllUnder 64 b starts → NextUnder (nextStart starts i)
     unfolding nextStart
     next-under starts i h = go (ltb (i + 1) (length starts)) refl
       where
@@ -200,8 +200,8 @@ module _ (row : List Bool) (b : ℕ) (short : length row ≤ 360000) (large : 23
       w : Times
       w = timesAt es i
 
-      more : (xs : List Float) → AllUnder b xs → AllUnder (b + growth) xs
-      more xs h j k = under-more b (b + growth) (getD xs j nan) (omega arith) (h j k)
+      more : (xs : List Float) → AllUnder 64 b xs → AllUnder 64 (b + growth) xs
+      more xs h j k = under-more 64 b (b + growth) (getD xs j nan) (omega arith) (h j k)
 
       turn-under : EdgesUnder (b + growth) (endTurn row duration units i es)
       unfolding endTurn setPair w
@@ -237,14 +237,14 @@ module _ (row : List Bool) (b : ℕ) (short : length row ≤ 360000) (large : 23
               let k = pair-in (es .starts) i w refl p in
               record {
                 starts =
-                    set-under (b + growth) (set (es .starts) i (t .start)) (i + 1) (t .end)
-                    (set-under (b + growth) (es .starts) i (t .start) (more (es .starts) (u .starts)) (λ j. under-more b (b + growth) (t .start) (omega arith) s-under))
+                    set-under 64 (b + growth) (set (es .starts) i (t .start)) (i + 1) (t .end)
+                    (set-under 64 (b + growth) (es .starts) i (t .start) (more (es .starts) (u .starts)) (λ j. under-more 64 b (b + growth) (t .start) (omega arith) s-under))
                     (λ j. e-under k);
-                ends = set-under (b + growth) (es .ends) i (t .end) (more (es .ends) (u .ends)) (λ j. e-under k);
+                ends = set-under 64 (b + growth) (es .ends) i (t .end) (more (es .ends) (u .ends)) (λ j. e-under k);
               }
           go false p = record {
-            starts = set-under (b + growth) (es .starts) i (v .start) (more (es .starts) (u .starts)) (λ j. v-under .0);
-            ends = set-under (b + growth) (es .ends) i (v .end) (more (es .ends) (u .ends)) (λ j. v-under .1);
+            starts = set-under 64 (b + growth) (es .starts) i (v .start) (more (es .starts) (u .starts)) (λ j. v-under .0);
+            ends = set-under 64 (b + growth) (es .ends) i (v .end) (more (es .ends) (u .ends)) (λ j. v-under .1);
           }
 
 -- ---- a turn keeps both lists as long as they are
@@ -282,6 +282,6 @@ ends-under row b duration units es short large B d us same as-long u =
           ends-long = g .1 ∙ h .ends-long;
           small =
               subst (λ (n : ℕ). EdgesUnder n (endTurn row duration units i s)) z
-              (turn-under row (b + growth * i) short (omega arith) (omega arith) duration (under-more b (b + growth * i) duration (omega arith) d) units us i s (h .ends-long ∙ sym (h .starts-long))
+              (turn-under row (b + growth * i) short (omega arith) (omega arith) duration (under-more 64 b (b + growth * i) duration (omega arith) d) units us i s (h .ends-long ∙ sym (h .starts-long))
               (as-long ∙ sym (h .starts-long)) (omega (arith, h .starts-long)) (h .small));
         }

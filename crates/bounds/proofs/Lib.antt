@@ -6,4 +6,9 @@ pub mod Tailing
 pub mod Onsetting
 pub mod PartWay
 pub mod Ending
+pub mod Parted
+pub mod Sharing
+pub mod Placing
+pub mod Sides
+pub mod Evening
 pub mod Small

@@ -64,7 +64,7 @@ module _ (row : List Bool) (b : ℕ) (B : b < 2 ^ 39) where
   onset-under i prevEnd w h = go (ltb 0 i && lt (w .start ⊖ prevEnd) pause)
     where
       more : Under (b + 1) (w .start)
-      more = under-more b (b + 1) (w .start) (omega arith) h
+      more = under-more 64 b (b + 1) (w .start) (omega arith) h
 
       found : ℤ
       found = onsetFrame row (frameAt (w .start)) (maxZ (frameCeil prevEnd) (frameAt (w .start) -ℤ pos maxBack))
@@ -74,7 +74,7 @@ module _ (row : List Bool) (b : ℕ) (B : b < 2 ^ 39) where
 
       go : (t : Bool) → Under (b + 1) (cond t w (times (jsMin (w .start) (frameSeconds found)) (w .end)) .start)
       go true = more
-      go false = min-under (b + 1) (w .start) (frameSeconds found) more (seconds-under (b + 1) found (omega arith) (omega (arith, small, frame-size b (w .start) (omega arith) h)))
+      go false = min-under 64 (b + 1) (w .start) (frameSeconds found) more (seconds-under (b + 1) found (omega arith) (omega (arith, small, frame-size b (w .start) (omega arith) h)))
 
   -- ---- before turn i the starts from i on are as they were
   record Before (i : ℕ) (es : Edges) : Type 0 where
@@ -89,7 +89,7 @@ module _ (row : List Bool) (b : ℕ) (B : b < 2 ^ 39) where
         (λ j l n. let g = h .starts j l in ((λ p. g .0 (omega arith)), g .1))
         (λ l. ((λ p. absurd (omega arith)), onset-under i (prevEnd (es .ends) i) (timesAt es i) (h .starts i l .0 (omega arith))));
     ends =
-        set-under (b + 1) (es .ends) i (onsetOf row i (prevEnd (es .ends) i) (timesAt es i) .end) (h .ends)
+        set-under 64 (b + 1) (es .ends) i (onsetOf row i (prevEnd (es .ends) i) (timesAt es i) .end) (h .ends)
         (λ l. subst (Under (b + 1)) (sym (end-stays row i (prevEnd (es .ends) i) (timesAt es i))) (h .ends i l));
   }
 
@@ -98,8 +98,8 @@ module _ (row : List Bool) (b : ℕ) (B : b < 2 ^ 39) where
   unfolding snapOnsets
   onsets-under es u =
       let h = each-holds Before (onsetTurn row) (length (es .starts)) (λ i s l p. turn-under i s p) (length (es .starts)) 0 es (omega arith) (record {
-        starts = λ j l. ((λ p. u .starts j l), under-more b (b + 1) (getD (es .starts) j nan) (omega arith) (u .starts j l));
-        ends = λ j l. under-more b (b + 1) (getD (es .ends) j nan) (omega arith) (u .ends j l);
+        starts = λ j l. ((λ p. u .starts j l), under-more 64 b (b + 1) (getD (es .starts) j nan) (omega arith) (u .starts j l));
+        ends = λ j l. under-more 64 b (b + 1) (getD (es .ends) j nan) (omega arith) (u .ends j l);
       }) in
       record { starts = λ j l. h .starts j l .1; ends = h .ends }
 

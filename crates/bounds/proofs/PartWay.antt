@@ -7,13 +7,13 @@ use native.Mathlib.Nat.{mul-pos, mul-le-mul-right, mul-le-mul, le-of-mul-le-mul-
 use native.Mathlib.Omega.{arith}
 use borrow.Author.Tests.{ltb-true, ltb-false}
 use lib.IntN.{ℤ}
-use lib.Dec.{ltb}
+use lib.Dec.{ltb, lit≤}
 use lib.Ieee.{Float, nan, inf, fin, binary64, up, down, unlike, round, sum, add, neg, sub, mul}
 use lib.Ieee.Fits.{down-pos}
 use Rattle.base.specs.Floats.{_⊕_, _⊖_, _⊗_}
 use Rattle.base.proofs.Most.{Most}
 use Rattle.bounds.specs.Bounds.{Under}
-use Rattle.bounds.proofs.Rounding.{round-sixty, sum-like, sum-unlike}
+use Rattle.bounds.proofs.Rounding.{round-signed, sum-like, sum-unlike}
 
 -- ---- the next multiple of a sixty-fourth
 over : (n c : ℕ) → 0 < c → (y : ℕ) × ((n ≤ y * c) × (y * c ≤ n + c))
@@ -59,7 +59,7 @@ module _ (b X E Z F : ℕ) (B : b < 2 ^ 50) (PE : 0 < E) (PF : 0 < F) (hx : X * 
   rounded s t n h =
       let o = over (n * 64) (F * E) (mul-pos PF PE) in
       let g = h (o .0) (o .1 .1) in
-      record { sign = t; steps = o .0; fine = g .0; most = round-sixty t n (F * E) (o .0) (mul-pos PF PE) (g .0) (o .1 .0); toward = g .1 }
+      record { sign = t; steps = o .0; fine = g .0; most = round-signed 6 (lit≤ tt) t n (F * E) (o .0) (mul-pos PF PE) (g .0) (o .1 .0); toward = g .1 }
 
   forth : (s : Bool) (n : ℕ) → n + X * F ≤ Z * E → Way s b X E (round binary64 s n (F * E))
   forth s n h = rounded s s n (λ y l. let g = on-from n y h l in (steps-fine y (omega arith), like s b X E y g))
@@ -91,7 +91,7 @@ part-most s y (inf t) part l h k = absurd h
 part-most s y (fin t m e) nan l h k = absurd k
 part-most s y (fin t m e) (inf u) l h k = absurd k
 part-most s y (fin t m e) (fin u n d) l h k =
-    rw (h .0, k .0, same s) (round-sixty s (m * up e * (n * up d)) (down e * down d) y (mul-pos (down-pos e) (down-pos d)) l (cross (m * up e) (down e) (n * up d) (down d) (h .1) (k .1)))
+    rw (h .0, k .0, same s) (round-signed 6 (lit≤ tt) s (m * up e * (n * up d)) (down e * down d) y (mul-pos (down-pos e) (down-pos d)) l (cross (m * up e) (down e) (n * up d) (down d) (h .1) (k .1)))
   where
     same : (s : Bool) → unlike s false ≡ s
     same true = refl
@@ -126,10 +126,10 @@ arrive b y s t m e (fin u n d) B l h w = rw (h .0) (go s t w)
     short-way = omega (arith, X-most)
 
     go : (s t : Bool) → Toward s t b (m * up e) (down e) y → Under (b + 1) (sum binary64 s (m * up e * down d) t (n * up d * down e) (down e * down d))
-    go true true w = sum-like (m * up e * down d) (n * up d * down e) (down e * down d) (b + 1) c (omega arith) true (on-way w)
-    go false false w = sum-like (m * up e * down d) (n * up d * down e) (down e * down d) (b + 1) c (omega arith) false (on-way w)
-    go true false w = sum-unlike (m * up e * down d) (n * up d * down e) (down e * down d) (b + 1) c (omega arith) true short-way (back-way w)
-    go false true w = sum-unlike (m * up e * down d) (n * up d * down e) (down e * down d) (b + 1) c (omega arith) false short-way (back-way w)
+    go true true w = sum-like 6 (lit≤ tt) (m * up e * down d) (n * up d * down e) (down e * down d) (b + 1) c (omega arith) true (on-way w)
+    go false false w = sum-like 6 (lit≤ tt) (m * up e * down d) (n * up d * down e) (down e * down d) (b + 1) c (omega arith) false (on-way w)
+    go true false w = sum-unlike 6 (lit≤ tt) (m * up e * down d) (n * up d * down e) (down e * down d) (b + 1) c (omega arith) true short-way (back-way w)
+    go false true w = sum-unlike 6 (lit≤ tt) (m * up e * down d) (n * up d * down e) (down e * down d) (b + 1) c (omega arith) false short-way (back-way w)
 
 pub part-way : (b : ℕ) (x y part : Float) → b < 2 ^ 50 → Under b x → Under b y → Most false 1 1 part → Under (b + 1) (x ⊕ (y ⊖ x) ⊗ part)
 part-way b nan y part B h k p = absurd h

@@ -26,7 +26,7 @@ module _ (b n : ℕ) (B : b < 2 ^ 40) (l : n * 64 ≤ b * 16000) where
   in-seconds s nan h = absurd h
   in-seconds s (inf t) h = absurd h
   in-seconds s (fin t m e) h =
-      round-under (unlike t false) (m * up e * 1) (125 * 2 ^ 7 * down e) b (omega (arith, down-pos e)) (omega arith) (cross (m * up e) (down e) (h .1))
+      round-under 6 (lit≤ tt) (unlike t false) (m * up e * 1) (125 * 2 ^ 7 * down e) b (omega (arith, down-pos e)) (omega arith) (cross (m * up e) (down e) (h .1))
     where
       cross : (X E : ℕ) → X * 1 ≤ n * E → X * 1 * 64 ≤ b * (125 * 2 ^ 7 * E)
       cross X E h = let r : n * 64 * E ≤ b * 16000 * E = mul-le-mul-right E l in omega arith
@@ -47,7 +47,7 @@ seconds-under b (negsuc n) B l = minus-under b (suc n * 160) B (omega arith)
 
 -- ---- a frame of an hour has a time of at most an hour
 pub hour-under : (b : ℕ) (k : ℤ) → 230400 ≤ b → natAbs k ≤ 360000 → Under b (frameSeconds k)
-hour-under b k l h = under-more 230400 b (frameSeconds k) l (seconds-under 230400 k (lit< tt) (omega arith))
+hour-under b k l h = under-more 64 230400 b (frameSeconds k) l (seconds-under 230400 k (lit< tt) (omega arith))
 
 -- ---- the frame of a time
 module _ (b : ℕ) (B : b < 2 ^ 40) where

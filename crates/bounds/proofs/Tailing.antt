@@ -89,10 +89,10 @@ module _ (row : List Bool) (b : ℕ) (short : length row ≤ 360000) (large : 23
   unfolding handBack
   hand-under Keeps i es h u = u
   hand-under (Hands tailEnd start) i es h u = record {
-    starts = set-under b (es .starts) i start (u .starts) (λ l. h .1);
+    starts = set-under 64 b (es .starts) i start (u .starts) (λ l. h .1);
     ends =
-        set-under b (es .ends) (i - 1) (jsMax (getD (es .ends) (i - 1) nan) tailEnd) (u .ends)
-        (λ l. max-under b (getD (es .ends) (i - 1) nan) tailEnd (u .ends (i - 1) l) (h .0));
+        set-under 64 b (es .ends) (i - 1) (jsMax (getD (es .ends) (i - 1) nan) tailEnd) (u .ends)
+        (λ l. max-under 64 b (getD (es .ends) (i - 1) nan) tailEnd (u .ends (i - 1) l) (h .0));
   }
 
   -- ---- all words: no bound of an hour or more grows

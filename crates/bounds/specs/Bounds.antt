@@ -15,13 +15,20 @@ pub record SmallTimes (ws : Words) : Type 0 where
   pub starts : (i : ℕ) → i < length (ws .starts) → Small (getD (ws .starts) i nan)
   pub ends : (i : ℕ) → i < length (ws .ends) → Small (getD (ws .ends) i nan)
 
--- ---- A finite number of at most b sixty-fourths in size.
-abbrev pub Under : ℕ → Float → Type 0
-Under b nan = ⊥
-Under b (inf s) = ⊥
-Under b (fin s m e) = m * up e * 64 ≤ b * down e
+-- ---- A finite number of at most b / d in size.
+abbrev pub UnderIn : ℕ → ℕ → Float → Type 0
+UnderIn d b nan = ⊥
+UnderIn d b (inf s) = ⊥
+UnderIn d b (fin s m e) = m * up e * d ≤ b * down e
 
 -- ---- Every start and every end is such a number.
-pub record EdgesUnder (b : ℕ) (es : Edges) : Type 0 where
-  pub starts : (i : ℕ) → i < length (es .starts) → Under b (getD (es .starts) i nan)
-  pub ends : (i : ℕ) → i < length (es .ends) → Under b (getD (es .ends) i nan)
+pub record EdgesUnderIn (d b : ℕ) (es : Edges) : Type 0 where
+  pub starts : (i : ℕ) → i < length (es .starts) → UnderIn d b (getD (es .starts) i nan)
+  pub ends : (i : ℕ) → i < length (es .ends) → UnderIn d b (getD (es .ends) i nan)
+
+-- ---- In sixty-fourths of a second: the stages on sound.
+abbrev pub Under : ℕ → Float → Type 0
+Under b x = UnderIn 64 b x
+
+abbrev pub EdgesUnder : ℕ → Edges → Type 0
+EdgesUnder b es = EdgesUnderIn 64 b es

@@ -1,13 +1,17 @@
 -- What a call answers and leaves, as numbers. Assumes nothing.
 use Prim.Native.Nat.{ℕ}
 use mathlib.Core.Path.{_≡_, ap, _∙_}
+use mathlib.Core.List.{List}
 use Rattle.base.specs.Words.{Words}
+use Rattle.phrase_align.specs.Calls as phrases
+use Rattle.phrase_align.specs.declared.Answer.{Answer as Placed}
 use Rattle.loops.specs.Calls as loops
 use Rattle.loops.specs.declared.Answer.{Answer as Collapsed}
 use Rattle.checks.specs.Calls.{Output, output}
 use Rattle.checks.specs.declared.Answer.{Answer}
-use Rattle.c_api.specs.Answers.{leftOf, leaves, leavesOf, movedOf, reply, replyOf}
+use Rattle.c_api.specs.Answers.{leftOf, leaves, leavesOf, movedOf, reply, replyOf, placedOf, placement, placementOf}
 use Rattle.c_api.specs.declared.QiluvraitLeft.{QiluvraitLeft}
+use Rattle.c_api.specs.declared.QiluvraitPlaced.{QiluvraitPlaced}
 
 pub reply-made : {n : ℕ} {a : Answer} {o : Output} (ws : Words) → n ≡ movedOf a → output a ws ≡ o → reply n ws ≡ replyOf o
 unfolding replyOf
@@ -16,3 +20,7 @@ reply-made ws p q = ap (λ (m : ℕ). reply m ws) p ∙ ap replyOf q
 pub leaves-made : {l : QiluvraitLeft} {a : Collapsed} {o : loops.Output} (ws : Words) → l ≡ leftOf a → loops.output a ws ≡ o → leaves l ws ≡ leavesOf o
 unfolding leavesOf
 leaves-made ws p q = ap (λ (m : QiluvraitLeft). leaves m ws) p ∙ ap leavesOf q
+
+pub placement-made : {l : QiluvraitPlaced} {a : Placed} {o : phrases.Output} (ws : Words) (f : List ℕ) → l ≡ placedOf a → phrases.output a ws f ≡ o → placement l ws f ≡ placementOf o
+unfolding placementOf
+placement-made ws f p q = ap (λ (m : QiluvraitPlaced). placement m ws f) p ∙ ap placementOf q

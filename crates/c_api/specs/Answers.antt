@@ -1,12 +1,16 @@
 -- An answer as numbers: refusal 0 and the value where the call accepts, document 01's number of the refusal and 0 where it refuses. Assumes nothing.
 use Prim.Native.Nat.{ℕ}
 use mathlib.Core.Bool.{cond}
+use mathlib.Core.List.{List}
 use lib.Ieee.{binary64, ofBits}
 use Rattle.base.specs.Refusals.{number}
 use Rattle.base.specs.Words.{Words}
 use Rattle.loops.specs.Calls as loops
 use Rattle.loops.specs.declared.Answer.{Answer as Collapsed}
 use Rattle.loops.specs.declared.Answer.the-variants as collapsed
+use Rattle.phrase_align.specs.Calls as phrases
+use Rattle.phrase_align.specs.declared.Answer.{Answer as Placed}
+use Rattle.phrase_align.specs.declared.Answer.the-variants as placed
 use Rattle.checks.specs.Calls as calls
 use Rattle.checks.specs.declared.Answer.{Answer as Moved}
 use Rattle.checks.specs.declared.Answer.the-variants as moved
@@ -20,6 +24,7 @@ use Rattle.c_api.specs.declared.QiluvraitLevel.{QiluvraitLevel}
 use Rattle.c_api.specs.declared.QiluvraitHeard.{QiluvraitHeard}
 use Rattle.c_api.specs.declared.QiluvraitCut.{QiluvraitCut}
 use Rattle.c_api.specs.declared.QiluvraitLeft.{QiluvraitLeft}
+use Rattle.c_api.specs.declared.QiluvraitPlaced.{QiluvraitPlaced}
 
 -- ---- The floor, or why there is none.
 abbrev pub heardOf : Answer → QiluvraitHeard
@@ -65,3 +70,19 @@ leaves l ws = record { left = l; words = ws }
 
 unfoldable pub leavesOf : loops.Output → Leaves
 leavesOf o = leaves (leftOf (o .answer)) (o .words)
+
+-- ---- The number of words placed, or why there is none; and the words and the phrase places afterwards.
+abbrev pub placedOf : Placed → QiluvraitPlaced
+placedOf (placed.Accepted n) = record { refusal = 0; count = n }
+placedOf (placed.Refused r) = record { refusal = number r; count = 0 }
+
+pub record Placement : Type 0 where
+  pub placed : QiluvraitPlaced
+  pub words : Words
+  pub phrases : List ℕ
+
+abbrev pub placement : QiluvraitPlaced → Words → List ℕ → Placement
+placement p ws f = record { placed = p; words = ws; phrases = f }
+
+unfoldable pub placementOf : phrases.Output → Placement
+placementOf o = placement (placedOf (o .answer)) (o .words) (o .phrases)

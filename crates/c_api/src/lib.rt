@@ -7,13 +7,15 @@ ghost use Rattle.js.specs.Js.{jsMin, jsMax, jsToFixed};
 ghost use Rattle.roots.specs.Sqrt.{sqrt as sqrtOf};
 ghost use Rattle.envelope.specs.Calls.{envelopeCall, ownFloor};
 ghost use Rattle.pieces.specs.Pieces.{piecesCall};
-ghost use Rattle.base.specs.Words.{words};
+ghost use Rattle.base.specs.Words.{words, spans};
 ghost use Rattle.loops.specs.Calls.{collapseCall};
 ghost use Rattle.tails.specs.Tails.{tailsCall};
 ghost use Rattle.onsets.specs.Onsets.{onsetsCall};
 ghost use Rattle.ends.specs.Ends.{endsCall};
+ghost use Rattle.phrase_align.specs.Calls.{alignCall};
+ghost use Rattle.even.specs.Calls.{evenCall};
 ghost use Rattle.tally.specs.Peak.{peakCall};
-ghost use Rattle.c_api.specs.Answers.{heardOf, cutOf, levelOf, leftOf, leaves, leavesOf, movedOf, reply, replyOf};
+ghost use Rattle.c_api.specs.Answers.{heardOf, cutOf, levelOf, leftOf, leaves, leavesOf, movedOf, reply, replyOf, placedOf, placement, placementOf};
 ghost use Rattle.frames.specs.Frames.{frameAt, frameCeil, frameFromZero, frameSeconds};
 
 #[no_mangle]
@@ -288,5 +290,68 @@ pub extern "C" fn qiluvrait_snap_ends(
         count,
         duration,
     );
+    moved(answer)
+}
+
+// What qiluvrait_align_phrases answers: refusal 0 and the number of words placed, or the number of the refusal.
+#[repr(C)]
+pub struct QiluvraitPlaced {
+    pub refusal: u32,
+    pub count: usize,
+}
+
+// An answer of phrase_align::align_phrases, as numbers.
+fn placed(answer: phrase_align::Answer) -> QiluvraitPlaced
+    ensures { λ r. ⌜ r ≡ placedOf answer ⌝ }
+{
+    match answer {
+        phrase_align::Answer::Accepted(count) => QiluvraitPlaced { refusal: 0, count },
+        phrase_align::Answer::Refused(why) => QiluvraitPlaced {
+            refusal: base::number(why),
+            count: 0,
+        },
+    }
+}
+
+#[no_mangle]
+pub extern "C" fn qiluvrait_align_phrases(
+    starts: &mut [f64],
+    ends: &mut [f64],
+    letters: &mut [u32],
+    units: &mut [u32],
+    keys: &mut [u32],
+    span_starts: &[f64],
+    span_ends: &[f64],
+    counts: &[u32],
+    phrases: &mut [u32],
+) -> QiluvraitPlaced
+    ensures { λ r. ⌜ placement r (words (now (starts .exit)) (now (ends .exit)) (now (letters .exit)) (now (units .exit)) (now (keys .exit))) (now (phrases .exit)) ≡ placementOf (alignCall (words (now (starts .entry)) (now (ends .entry)) (now (letters .entry)) (now (units .entry)) (now (keys .entry))) (spans (now («span_starts» .entry)) (now («span_ends» .entry)) (now (counts .entry))) (now (phrases .entry))) ⌝ }
+{
+    let answer = phrase_align::align_phrases(
+        starts,
+        ends,
+        letters,
+        units,
+        keys,
+        span_starts,
+        span_ends,
+        counts,
+        phrases,
+    );
+    placed(answer)
+}
+
+#[no_mangle]
+pub extern "C" fn qiluvrait_even_out(
+    starts: &mut [f64],
+    ends: &mut [f64],
+    letters: &[u32],
+    units: &[u32],
+    keys: &[u32],
+    limit: f64,
+) -> u32
+    ensures { λ r. ⌜ reply r (words (now (starts .exit)) (now (ends .exit)) (now (letters .entry)) (now (units .entry)) (now (keys .entry))) ≡ replyOf (evenCall (words (now (starts .entry)) (now (ends .entry)) (now (letters .entry)) (now (units .entry)) (now (keys .entry))) limit) ⌝ }
+{
+    let answer = even::even_out(starts, ends, letters, units, keys, limit);
     moved(answer)
 }

@@ -1,4 +1,4 @@
--- Every case of the table, by computing the definitions. Assumes nothing.
+-- Every case of the table, and the further sentences, by computing the definitions. Assumes nothing.
 use Prim.Native.Nat.{ℕ, _*_}
 use mathlib.Core.Path.{_≡_, refl, ap}
 use mathlib.Core.List.{[], _∷_}
@@ -6,8 +6,8 @@ use mathlib.Core.Bool.{false}
 use lib.Count.{trailingZeros}
 use lib.ListN.{replicate}
 use lib.Ieee.{isNan, ofInt, add, sub, neg, sum, mul, div, le, lt, eq, round, size, span, climb, units, odd, ofFields, ofBits}
-use Rattle.base.specs.Loop.{each, fold, run}
-use Rattle.base.specs.Words.{edges}
+use Rattle.base.specs.Loop.{each, fold, run, down, up}
+use Rattle.base.specs.Words.{edges, partEdges, onPart}
 use Rattle.js.specs.Js.{under, jsMax, jsMin, jsToFixed, nearestUp}
 use Rattle.frames.specs.Frames.{floorI64, frameAt, frameSeconds}
 use Rattle.roots.specs.Sqrt.{sqrt, roundRoot, nearRoot, isqrt, rootDigits}
@@ -15,7 +15,10 @@ use Rattle.envelope.specs.Levels.{hop, squares, level, quietRow}
 use Rattle.pieces.specs.Pieces.{cut, searched, searchTurn}
 use Rattle.loops.specs.Loops.{equal, same, copiesEnd, isLoop, loopTurn, pass, collapseLoops}
 use Rattle.ends.specs.Ends.{nextStart, isPair, pairStart, pairEdge, pairOf, lastLoud, soundEnd, reach, orDuration, trimmed, endOf, setPair, endTurn, snapEnds}
-use Rattle.cases.specs.Table.{Table, double, quietFrames, keysLeft}
+use Rattle.share.specs.Share as shares
+use Rattle.phrase_align.specs.Spread as phrases
+use Rattle.even.specs.Even as even
+use Rattle.cases.specs.Table.{Table, Sentences, double, quietFrames, keysLeft}
 
 level-of-half : level (replicate 160 (double false 1 2)) ≡ double false 1 2
 unfolding level squares fold sqrt roundRoot nearRoot isqrt rootDigits add sum mul div round size span climb units odd ofFields ofBits trailingZeros
@@ -73,3 +76,7 @@ table = record {
   runs-of-two = runs-of-two;
   edge-shared = edge-shared;
 }
+
+pub sentences : Sentences
+unfolding phrases.placeGroup phrases.spread phrases.inside phrases.firstInside phrases.lastInside phrases.spreadBefore phrases.spreadAfter phrases.betweenTurn phrases.placeBetween even.evenOut even.evenTurn even.evenRun even.stretchOf even.endOf even.borrowed even.borrows even.ceilingOf even.grown even.grows even.lastCrushed even.withSwollen even.firstCrushed even.swollen even.crushed even.sum shares.share shares.sum partEdges onPart each fold up down jsMin jsMax under isNan add sub neg sum mul div lt le eq ofInt round size span climb units odd ofBits ofFields trailingZeros
+sentences = record { spread-over-the-span = refl; span-reversed = refl; last-end-kept = refl }

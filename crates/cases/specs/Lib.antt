@@ -1,2 +1,2 @@
--- The worked examples that document 01 marks with ●, as equations about the definitions.
+-- The worked examples that document 01 marks with ●, and examples for further sentences of it, as equations about the definitions.
 pub mod Table

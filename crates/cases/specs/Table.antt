@@ -1,4 +1,4 @@
--- The table of document 01's cases marked ●, each as it stands there. Assumes nothing.
+-- The table of document 01's cases marked ●, each as it stands there, and examples for sentences without one. Assumes nothing.
 use Prim.Native.Nat.{ℕ, _+_, _-_, _*_}
 use mathlib.Core.Bool.{Bool, true, false}
 use mathlib.Core.Path.{_≡_}
@@ -12,6 +12,8 @@ use Rattle.envelope.specs.Levels.{hop, level, quietRow}
 use Rattle.pieces.specs.Pieces.{cut}
 use Rattle.loops.specs.Loops.{collapseLoops}
 use Rattle.ends.specs.Ends.{snapEnds}
+use Rattle.phrase_align.specs.Spread.{placeGroup}
+use Rattle.even.specs.Even.{evenOut}
 
 -- ---- The double that a decimal number stands for: the nearest to n / d, with a sign.
 abbrev pub double : Bool → ℕ → ℕ → Float
@@ -50,3 +52,14 @@ pub record Table : Type 0 where
   -- Onsets and ends: "● No loud frame, words (0.1, 0.12) and (0.13, 0.2), units 3 each: the edge is 0.16 for both."
   pub edge-shared : snapEnds (replicate 30 false) (double false 30 100) (3 ∷ 3 ∷ []) (edges (double false 10 100 ∷ double false 13 100 ∷ []) (double false 12 100 ∷ double false 20 100 ∷ []))
       ≡ edges (double false 10 100 ∷ double false 16 100 ∷ []) (double false 16 100 ∷ double false 20 100 ∷ [])
+
+-- ---- Sentences of document 01 that bear no ●, each with an example of ours: letters, then the words' starts and ends.
+pub record Sentences : Type 0 where
+  -- Placing in phrases: "With no inside word all are spread over the span."
+  pub spread-over-the-span : placeGroup (1 ∷ 3 ∷ []) (double false 8 1) (double false 9 1) (edges (double false 2 1 ∷ double false 3 1 ∷ []) (double false 3 1 ∷ double false 4 1 ∷ []))
+      ≡ edges (double false 8 1 ∷ double false 33 4 ∷ []) (double false 33 4 ∷ double false 9 1 ∷ [])
+  -- "A spread shares max(0, to - from) by letters.": nothing, of a span from 9 to 8 s.
+  pub span-reversed : placeGroup (1 ∷ 3 ∷ []) (double false 9 1) (double false 8 1) (edges (double false 2 1 ∷ double false 3 1 ∷ []) (double false 3 1 ∷ double false 4 1 ∷ []))
+      ≡ edges (double false 9 1 ∷ double false 9 1 ∷ []) (double false 9 1 ∷ double false 9 1 ∷ [])
+  -- Shortcuts: "Ends clipped to the duration after evening: `to` never falls below the last end.": the limit is 0.5 s, and the word ends at 1.0625 s.
+  pub last-end-kept : evenOut (4 ∷ []) (double false 1 2) (edges (double false 1 1 ∷ []) (double false 17 16 ∷ [])) ≡ edges (double false 1 1 ∷ []) (double false 17 16 ∷ [])

@@ -1,14 +1,14 @@
--- What applies of words, levels and a time, from the tests that found it. Assumes nothing.
+-- What applies of words, levels, a time, a limit, spans and places, from the tests that found it. Assumes nothing.
 use mathlib.Core.Path.{_≡_}
 use mathlib.Core.Bool.{Bool, true, false, _||_}
 use Prim.Native.Nat.{ℕ}
 use lib.ListN.{length}
 use lib.Ieee.{Float}
-use Rattle.base.specs.Words.{Words}
+use Rattle.base.specs.Words.{Words, Spans}
 use Rattle.base.specs.declared.Rule.{Rule}
-use Rattle.checks.specs.Limits.{differ, many, manySamples, badTime, badWordTimes, badLetters, otherLevels}
+use Rattle.checks.specs.Limits.{differ, many, manySamples, badTime, badLimit, badWordTimes, badSpanTimes, badLetters, fewPlaces, otherLevels}
 use Rattle.checks.specs.Order.{chain}
-use Rattle.checks.specs.Calls.{uneven, ofWords, withLevels, withTime, soundRule, timedRule}
+use Rattle.checks.specs.Calls.{uneven, ofWords, withLevels, withTime, withLimit, unevenSpans, manySpans, withSpans, withPlaces, soundRule, timedRule, limitRule, spansRule}
 use Rattle.checks.specs.declared.Applies.{Applies}
 
 -- ---- the lengths of five lists, test by test
@@ -48,6 +48,22 @@ module _ (a : Applies) where
   unfolding withTime
   withTime-made t p q = rw (q, p)
 
+  pub withLimit-made : (t : Float) {m b : Bool} → m ≡ badLimit t → b ≡ (a .times || m)
+      → record { lengths = a .lengths; counts = a .counts; times = b; letters = a .letters; levels = a .levels; places = a .places; cut = a .cut } ≡ withLimit t a
+  unfolding withLimit
+  withLimit-made t p q = rw (q, p)
+
+  pub withSpans-made : (sp : Spans) {l m n o p q : Bool} → l ≡ unevenSpans (length (sp .starts)) (length (sp .ends)) (length (sp .counts)) → m ≡ (a .lengths || l) → n ≡ manySpans sp
+      → o ≡ (a .counts || n) → p ≡ badSpanTimes (sp .starts) (sp .ends) → q ≡ (a .times || p)
+      → record { lengths = m; counts = o; times = q; letters = a .letters; levels = a .levels; places = a .places; cut = a .cut } ≡ withSpans sp a
+  unfolding withSpans
+  withSpans-made sp e f g h i j = rw (f, e, h, g, j, i)
+
+  pub withPlaces-made : (places need : ℕ) {m b : Bool} → m ≡ fewPlaces places need → b ≡ (a .places || m)
+      → record { lengths = a .lengths; counts = a .counts; times = a .times; letters = a .letters; levels = a .levels; places = b; cut = a .cut } ≡ withPlaces places need a
+  unfolding withPlaces
+  withPlaces-made places need p q = rw (q, p)
+
 -- ---- what the tests find, from what applies
 module _ (ws : Words) (levels samples : ℕ) {a b : Applies} (p : a ≡ ofWords ws) (q : b ≡ withLevels levels samples a) where
   pub soundRule-made : {r : Rule} → r ≡ chain b → r ≡ soundRule ws levels samples
@@ -57,3 +73,12 @@ module _ (ws : Words) (levels samples : ℕ) {a b : Applies} (p : a ≡ ofWords 
   pub timedRule-made : (t : Float) {d : Applies} {r : Rule} → d ≡ withTime t b → r ≡ chain d → r ≡ timedRule ws levels samples t
   unfolding timedRule
   timedRule-made t s e = rw (e, s, q, p)
+
+module _ (ws : Words) {a : Applies} (p : a ≡ ofWords ws) where
+  pub limitRule-made : (t : Float) {b : Applies} {r : Rule} → b ≡ withLimit t a → r ≡ chain b → r ≡ limitRule ws t
+  unfolding limitRule
+  limitRule-made t q e = rw (e, q, p)
+
+  pub spansRule-made : (sp : Spans) (places need : ℕ) {b d : Applies} {r : Rule} → b ≡ withSpans sp a → d ≡ withPlaces places need b → r ≡ chain d → r ≡ spansRule ws sp places need
+  unfolding spansRule
+  spansRule-made sp places need q s e = rw (e, s, q, p)

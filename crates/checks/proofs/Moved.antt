@@ -7,16 +7,16 @@ use mathlib.Core.List.{List}
 use native.Mathlib.Omega.{arith}
 use native.Mathlib.Nat.{div-le-self}
 use lib.Ieee.{Float}
-use Rattle.base.specs.Words.{Words, words, Edges, edges, withEdges}
+use Rattle.base.specs.Words.{Words, words, Spans, Edges, edges, withEdges}
 use Rattle.base.specs.declared.Refusal.{Refusal}
 use Rattle.base.specs.declared.Rule.{Rule}
 use Rattle.base.specs.declared.Rule.the-variants.{Fine, Breaks}
 use Rattle.base.proofs.First.{None, First, fine-none, none-fine, breaks-first, first-breaks}
 use Rattle.checks.specs.Order.{inOrder, chain}
-use Rattle.checks.specs.Calls.{ofWords, withLevels, withTime, soundRule, timedRule, output, moved}
+use Rattle.checks.specs.Calls.{ofWords, withLevels, withTime, withLimit, withSpans, withPlaces, soundRule, timedRule, limitRule, spansRule, output, moved}
 use Rattle.checks.specs.declared.Applies.{Applies}
 use Rattle.checks.specs.declared.Answer.the-variants.{Accepted, Refused}
-use Rattle.checks.proofs.Within.{Within, WordsWithin, words-exactly, levels-exactly, time-exactly}
+use Rattle.checks.proofs.Within.{Within, LimitWithin, WordsWithin, SpansWithin, words-exactly, levels-exactly, time-exactly, limit-exactly, spans-exactly, places-exactly}
 
 -- ---- the three fields of a word that no such call changes
 pub record Keeps (before after : Words) : Type 0 where
@@ -109,6 +109,48 @@ module _ (ws : Words) (levels samples : ℕ) where
   unfolding timedRule chain
   timed-fine duration h =
       within-sound .1 (time-exactly (soundApplies ws levels samples) duration .1 (fine-none (inOrder (timedApplies ws levels samples duration)) h) .0)
+
+-- ---- words and a limit for evening
+abbrev pub limitApplies : Words → Float → Applies
+limitApplies ws limit = withLimit limit (ofWords ws)
+
+module _ (ws : Words) (limit : Float) where
+  within-limit : (WordsWithin ws × LimitWithin limit) ↔ None (inOrder (limitApplies ws limit))
+  within-limit =
+      let w = words-exactly ws in
+      let l = limit-exactly (ofWords ws) limit in
+      ((λ h. l .0 (w .0 (h .0), h .1)), (λ n. let m = l .1 n in (w .1 (m .0), m .1)))
+
+  module _ (es : Edges) where
+    pub limit-accepted : (WordsWithin ws × LimitWithin limit) ↔ (moved (limitRule ws limit) es ws .answer ≡ Accepted)
+    unfolding limitRule
+    limit-accepted =
+        let e = accepted-exactly es ws (limitApplies ws limit) in
+        ((λ h. e .0 (within-limit .0 h)), (λ h. within-limit .1 (e .1 h)))
+
+    pub limit-refused : (q : Refusal) → First q (inOrder (limitApplies ws limit)) ↔ (moved (limitRule ws limit) es ws .answer ≡ Refused q)
+    unfolding limitRule
+    limit-refused q = refused-exactly es ws (limitApplies ws limit) q
+
+  pub limit-fine : limitRule ws limit ≡ Fine → WordsWithin ws × LimitWithin limit
+  unfolding limitRule chain
+  limit-fine h = within-limit .1 (fine-none (inOrder (limitApplies ws limit)) h)
+
+-- ---- words, spans, and so many places where so many are needed
+abbrev pub spansApplies : Words → Spans → ℕ → ℕ → Applies
+spansApplies ws sp places need = withPlaces places need (withSpans sp (ofWords ws))
+
+module _ (ws : Words) (sp : Spans) (places need : ℕ) where
+  pub within-spans : (WordsWithin ws × (SpansWithin sp × (need ≤ places))) ↔ None (inOrder (spansApplies ws sp places need))
+  within-spans =
+      let w = words-exactly ws in
+      let s = spans-exactly (ofWords ws) sp in
+      let p = places-exactly (withSpans sp (ofWords ws)) places need in
+      ((λ h. p .0 (s .0 (w .0 (h .0), h .1 .0), h .1 .1)), (λ n. let m = p .1 n in let k = s .1 (m .0) in (w .1 (k .0), (k .1, m .1))))
+
+  pub spans-fine : spansRule ws sp places need ≡ Fine → WordsWithin ws × (SpansWithin sp × (need ≤ places))
+  unfolding spansRule chain
+  spans-fine h = within-spans .1 (fine-none (inOrder (spansApplies ws sp places need)) h)
 
 -- an hour has few levels
 pub few-levels : {levels samples : ℕ} → (samples ≤ 57600000) × (levels ≡ samples / 160) → levels ≤ 2 ^ 40

@@ -1,19 +1,20 @@
 -- The limits of document 01 in plain words: no test applies exactly when all is within them. By reading each test. Assumes nothing.
 use Prim.Native.Nat.{ℕ, zero, suc, _/_, _≤_, _<_}
-use mathlib.Core.Path.{_≡_, refl, sym, ap}
+use mathlib.Core.Path.{_≡_, refl, sym, ap, _∙_}
 use mathlib.Core.Bool.{Bool, true, false, cond, not, _&&_, _||_, true≢false}
-use mathlib.Core.Logic.{_↔_}
+use mathlib.Core.Logic.{_↔_, _⊎_, inl, inr}
 use mathlib.Core.List.{List, [], _∷_}
 use native.Mathlib.Omega.{arith}
 use borrow.Author.Tests.{ltb-true, ltb-false, le-ltb, eqb-true, eq-eqb, not-false}
 use lib.Dec.{eqb, ltb}
 use lib.ListN.{length, getD, List·getD-eq-default}
 use lib.Ieee.{Float, nan, inf, fin, le}
-use Rattle.base.specs.Words.{Words}
+use Rattle.base.specs.Words.{Words, Spans, count}
+use Rattle.base.specs.Parts.{OneLength}
 use Rattle.base.proofs.First.{None}
-use Rattle.checks.specs.Limits.{any, least, most, timeOf, isFine, badTime, outside}
+use Rattle.checks.specs.Limits.{any, least, most, timeOf, limitOf, isFine, badTime, badLimit, outside}
 use Rattle.checks.specs.Order.{inOrder}
-use Rattle.checks.specs.Calls.{uneven, ofWords, withLevels, withTime}
+use Rattle.checks.specs.Calls.{uneven, ofWords, withLevels, withTime, withLimit, unevenSpans, manySpans, withSpans, withPlaces}
 use Rattle.checks.specs.declared.Applies.{Applies}
 use Rattle.checks.specs.declared.TimeTest.{TimeTest}
 use Rattle.checks.specs.declared.TimeTest.the-variants as time
@@ -36,6 +37,24 @@ fine-within (fin s m e) h = go (le least (fin s m e)) (le (fin s m e) most) h
     go true true k = (refl, refl)
     go true false k = absurd (true≢false k)
     go false b k = absurd (true≢false k)
+
+-- ---- a limit for evening: such a time, or +infinity
+abbrev pub LimitWithin : Float → Type 0
+LimitWithin t = Within t ⊎ (t ≡ inf false)
+
+within-limit : (t : Float) → LimitWithin t → badLimit t ≡ false
+unfolding limitOf timeOf
+within-limit nan (inl h) = absurd (true≢false (within-fine nan h))
+within-limit (inf s) (inl h) = absurd (true≢false (within-fine (inf s) h))
+within-limit (fin s m e) (inl h) = within-fine (fin s m e) h
+within-limit t (inr h) = rw h
+
+limit-within : (t : Float) → badLimit t ≡ false → LimitWithin t
+unfolding limitOf
+limit-within nan h = absurd (true≢false h)
+limit-within (inf true) h = absurd (true≢false h)
+limit-within (inf false) h = inr refl
+limit-within (fin s m e) h = inl (fine-within (fin s m e) h)
 
 -- ---- two tests, of which none applies
 neither : (a b : Bool) → (a || b) ≡ false → (a ≡ false) × (b ≡ false)
@@ -87,8 +106,21 @@ pub record WordsWithin (ws : Words) : Type 0 where
   pub letters-from-1 : AllFrom 1 1000 (ws .letters)
   pub units-from-1 : AllFrom 1 10000 (ws .units)
 
+-- all five lists are of one length
+pub one-length : {ws : Words} → WordsWithin ws → OneLength (count ws) ws
+one-length w = (sym (w .keys-as-long), (w .ends-as-long ∙ sym (w .keys-as-long), (w .letters-as-long ∙ sym (w .keys-as-long), (w .units-as-long ∙ sym (w .keys-as-long), refl))))
+
 pub letters-most : {ws : Words} → WordsWithin ws → (i : ℕ) → getD (ws .letters) i 0 ≤ 1000
 letters-most {ws} w i = all-most (ws .letters) (w .letters-from-1) i
+
+-- ---- A list of spans within the limits.
+pub record SpansWithin (sp : Spans) : Type 0 where
+  pub ends-as-long : length (sp .ends) ≡ length (sp .starts)
+  pub counts-as-long : length (sp .counts) ≡ length (sp .starts)
+  pub few : length (sp .starts) ≤ 4096
+  pub counts-to-4096 : AllFrom 0 4096 (sp .counts)
+  pub starts-within : AllWithin (sp .starts)
+  pub ends-within : AllWithin (sp .ends)
 
 -- two lengths that do not differ
 alike : {a b : ℕ} → not (eqb a b) ≡ false → a ≡ b
@@ -162,3 +194,66 @@ module _ (a : Applies) where
 
       from : None (inOrder (withTime t a)) → None (inOrder a) × Within t
       from n = let h = neither _ _ (n .1 .1 .0) in ((n .0, (n .1 .0, (h .0, n .1 .1 .1))), fine-within t (h .1))
+
+  -- ---- with a limit for evening
+  pub limit-exactly : (t : Float) → (None (inOrder a) × LimitWithin t) ↔ None (inOrder (withLimit t a))
+  unfolding inOrder withLimit
+  limit-exactly t = (to, from)
+    where
+      to : None (inOrder a) × LimitWithin t → None (inOrder (withLimit t a))
+      to (n, w) = (n .0, (n .1 .0, (both-not (n .1 .1 .0) (within-limit t w), n .1 .1 .1)))
+
+      from : None (inOrder (withLimit t a)) → None (inOrder a) × LimitWithin t
+      from n = let h = neither _ _ (n .1 .1 .0) in ((n .0, (n .1 .0, (h .0, n .1 .1 .1))), limit-within t (h .1))
+
+  -- ---- with a list of spans
+  pub spans-exactly : (sp : Spans) → (None (inOrder a) × SpansWithin sp) ↔ None (inOrder (withSpans sp a))
+  unfolding inOrder withSpans unevenSpans manySpans
+  spans-exactly sp = (to, from)
+    where
+      to : None (inOrder a) × SpansWithin sp → None (inOrder (withSpans sp a))
+      to (n, w) = (
+        both-not (n .0) (both-not (differ-no (w .ends-as-long)) (differ-no (w .counts-as-long))),
+        (
+          both-not (n .1 .0)
+              (both-not (le-ltb 4096 (length (sp .starts)) (w .few))
+              (none-any (outside 0 4096) 0 (sp .counts) (λ i l. let h = w .counts-to-4096 i l in both-not (le-ltb _ _ (h .0)) (le-ltb _ _ (h .1))))),
+          (
+            both-not (n .1 .1 .0)
+                (both-not (none-any badTime nan (sp .starts) (λ i l. within-fine _ (w .starts-within i l))) (none-any badTime nan (sp .ends) (λ i l. within-fine _ (w .ends-within i l)))),
+            n .1 .1 .1,
+          ),
+        ),
+      )
+
+      from : None (inOrder (withSpans sp a)) → None (inOrder a) × SpansWithin sp
+      from n =
+          let l = neither _ _ (n .0) in
+          let m = neither _ _ (l .1) in
+          let k = neither _ _ (n .1 .0) in
+          let h = neither _ _ (k .1) in
+          let t = neither _ _ (n .1 .1 .0) in
+          let u = neither _ _ (t .1) in (
+            (l .0, (k .0, (t .0, n .1 .1 .1))),
+            record {
+              ends-as-long = alike (m .0);
+              counts-as-long = alike (m .1);
+              few = ltb-false 4096 (length (sp .starts)) (h .0);
+              counts-to-4096 = λ i g. inside 0 4096 _ (any-none (outside 0 4096) 0 (sp .counts) (h .1) i g);
+              starts-within = λ i g. fine-within _ (any-none badTime nan (sp .starts) (u .0) i g);
+              ends-within = λ i g. fine-within _ (any-none badTime nan (sp .ends) (u .1) i g);
+            },
+          )
+
+  -- ---- with so many places, of which so many are needed
+  pub places-exactly : (places need : ℕ) → (None (inOrder a) × (need ≤ places)) ↔ None (inOrder (withPlaces places need a))
+  unfolding inOrder withPlaces
+  places-exactly places need = (to, from)
+    where
+      to : None (inOrder a) × (need ≤ places) → None (inOrder (withPlaces places need a))
+      to (n, w) = (n .0, (n .1 .0, (n .1 .1 .0, (n .1 .1 .1 .0, (n .1 .1 .1 .1 .0, (both-not (n .1 .1 .1 .1 .1 .0) (le-ltb places need w), n .1 .1 .1 .1 .1 .1))))))
+
+      from : None (inOrder (withPlaces places need a)) → None (inOrder a) × (need ≤ places)
+      from n =
+          let h = neither _ _ (n .1 .1 .1 .1 .1 .0) in
+          ((n .0, (n .1 .0, (n .1 .1 .0, (n .1 .1 .1 .0, (n .1 .1 .1 .1 .0, (h .0, n .1 .1 .1 .1 .1 .1)))))), ltb-false places need (h .1))

@@ -3,10 +3,10 @@ use Prim.Native.Nat.{ℕ}
 use mathlib.Core.Bool.{Bool, false, _||_}
 use lib.ListN.{length}
 use lib.Ieee.{Float}
-use Rattle.base.specs.Words.{Words, Edges, withEdges}
+use Rattle.base.specs.Words.{Words, Spans, Edges, withEdges}
 use Rattle.base.specs.declared.Rule.{Rule}
 use Rattle.base.specs.declared.Rule.the-variants.{Fine, Breaks}
-use Rattle.checks.specs.Limits.{differ, many, manySamples, badTime, badWordTimes, badLetters, otherLevels}
+use Rattle.checks.specs.Limits.{differ, many, manySamples, badTime, badLimit, badWordTimes, badSpanTimes, badLetters, badCounts, fewPlaces, otherLevels}
 use Rattle.checks.specs.Order.{chain}
 use Rattle.checks.specs.declared.Applies.{Applies}
 use Rattle.checks.specs.declared.Answer.{Answer}
@@ -52,6 +52,50 @@ withTime t a = record {
   cut = a .cut;
 }
 
+-- ---- And what applies of a limit for evening: 1.
+unfoldable pub withLimit : Float → Applies → Applies
+withLimit t a = record {
+  lengths = a .lengths;
+  counts = a .counts;
+  times = a .times || badLimit t;
+  letters = a .letters;
+  levels = a .levels;
+  places = a .places;
+  cut = a .cut;
+}
+
+-- ---- 3: of a span's three lists, one is not as long as the starts.
+unfoldable pub unevenSpans : ℕ → ℕ → ℕ → Bool
+unevenSpans starts ends counts = differ ends starts || differ counts starts
+
+-- ---- 4: too many spans, or too large a span count.
+unfoldable pub manySpans : Spans → Bool
+manySpans sp = many (length (sp .starts)) || badCounts (sp .counts)
+
+-- ---- And what applies of a list of spans: 3, 4, 1.
+unfoldable pub withSpans : Spans → Applies → Applies
+withSpans sp a = record {
+  lengths = a .lengths || unevenSpans (length (sp .starts)) (length (sp .ends)) (length (sp .counts));
+  counts = a .counts || manySpans sp;
+  times = a .times || badSpanTimes (sp .starts) (sp .ends);
+  letters = a .letters;
+  levels = a .levels;
+  places = a .places;
+  cut = a .cut;
+}
+
+-- ---- And what applies of so many places, of which so many are needed: 6.
+unfoldable pub withPlaces : ℕ → ℕ → Applies → Applies
+withPlaces places need a = record {
+  lengths = a .lengths;
+  counts = a .counts;
+  times = a .times;
+  letters = a .letters;
+  levels = a .levels;
+  places = a .places || fewPlaces places need;
+  cut = a .cut;
+}
+
 -- ---- What the tests find of a stage on sound: 3, 4, 1, 2, 7.
 unfoldable pub soundRule : Words → ℕ → ℕ → Rule
 soundRule ws levels samples = chain (withLevels levels samples (ofWords ws))
@@ -59,6 +103,14 @@ soundRule ws levels samples = chain (withLevels levels samples (ofWords ws))
 -- ---- The same, with a duration among the times.
 unfoldable pub timedRule : Words → ℕ → ℕ → Float → Rule
 timedRule ws levels samples duration = chain (withTime duration (withLevels levels samples (ofWords ws)))
+
+-- ---- What the tests find of words and a limit for evening: 3, 4, 1, 2.
+unfoldable pub limitRule : Words → Float → Rule
+limitRule ws limit = chain (withLimit limit (ofWords ws))
+
+-- ---- What the tests find of words, spans, and so many places where so many are needed: 3, 4, 1, 2, 6.
+unfoldable pub spansRule : Words → Spans → ℕ → ℕ → Rule
+spansRule ws sp places need = chain (withPlaces places need (withSpans sp (ofWords ws)))
 
 -- ---- What a call gives back that moves the words' times, and what the words are afterwards.
 pub record Output : Type 0 where

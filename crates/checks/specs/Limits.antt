@@ -44,6 +44,9 @@ limitOf nan = NotFinite
 limitOf (inf s) = cond s NotFinite Fine
 limitOf (fin s m e) = timeOf (fin s m e)
 
+abbrev pub badLimit : Float → Bool
+badLimit t = not (isFine (limitOf t))
+
 -- ---- 2: "Letters 1 to 1,000, units 1 to 10,000"
 abbrev pub outside : ℕ → ℕ → ℕ → Bool
 outside least most n = ltb n least || ltb most n

@@ -1,11 +1,11 @@
 // The tests behind the refusals of document 01, and their order.
 ghost use mathlib.Core.Path.{_≡_};
 ghost use mathlib.Core.Bool.{_||_};
-ghost use Rattle.checks.specs.Limits.{any, timeOf, limitOf, badTime, badWordTimes, badSpanTimes, badLetters, badCounts, outside, differ, many as manyOf, manySamples, fewPlaces, otherLevels};
+ghost use Rattle.checks.specs.Limits.{any, timeOf, limitOf, badTime, badLimit, badWordTimes, badSpanTimes, badLetters, badCounts, outside, differ, many as manyOf, manySamples, fewPlaces, otherLevels};
 ghost use Rattle.checks.specs.Parts.{noTime};
 ghost use Rattle.checks.specs.Order.{chain as chainOf};
-ghost use Rattle.checks.specs.Calls.{uneven, ofWords, withLevels, withTime, soundRule, timedRule};
-ghost use Rattle.base.specs.Words.{words};
+ghost use Rattle.checks.specs.Calls.{uneven, ofWords, withLevels, withTime, withLimit, unevenSpans, manySpans, withSpans, withPlaces, soundRule, timedRule, limitRule, spansRule};
+ghost use Rattle.base.specs.Words.{words, spans};
 use base::Refusal;
 use base::Rule;
 
@@ -102,6 +102,18 @@ pub fn bad_time(t: f64) -> bool
     ensures { λ r. ⌜ r ≡ badTime t ⌝ }
 {
     let found = time_test(t);
+    match found {
+        TimeTest::Fine => false,
+        TimeTest::NotFinite => true,
+        TimeTest::Outside => true,
+    }
+}
+
+// Whether a limit for evening is not fine.
+pub fn bad_limit(t: f64) -> bool
+    ensures { λ r. ⌜ r ≡ badLimit t ⌝ }
+{
+    let found = limit_test(t);
     match found {
         TimeTest::Fine => false,
         TimeTest::NotFinite => true,
@@ -296,6 +308,71 @@ pub fn with_time(a: Applies, t: f64) -> Applies
     }
 }
 
+// And what applies of a limit for evening: 1.
+pub fn with_limit(a: Applies, t: f64) -> Applies
+    ensures { λ r. ⌜ r ≡ withLimit t a ⌝ }
+{
+    Applies {
+        lengths: a.lengths,
+        counts: a.counts,
+        times: either(a.times, bad_limit(t)),
+        letters: a.letters,
+        levels: a.levels,
+        places: a.places,
+        cut: a.cut,
+    }
+}
+
+// Whether one of a span's three lists is not as long as the starts (refusal 3).
+fn span_lists_differ(starts: usize, ends: usize, counts: usize) -> bool
+    ensures { λ r. ⌜ r ≡ unevenSpans starts ends counts ⌝ }
+{
+    either(
+        differ_in_length(ends, starts),
+        differ_in_length(counts, starts),
+    )
+}
+
+// Too many spans, or too large a span count (refusal 4).
+fn many_spans(starts: &[f64], ends: &[f64], counts: &[u32]) -> bool
+    ensures { λ r. ⌜ r ≡ manySpans (spans (now (starts .entry)) (now (ends .entry)) (now (counts .entry))) ⌝ }
+{
+    either(many(starts.len()), bad_counts(counts))
+}
+
+// And what applies of a list of spans: 3, 4, 1.
+pub fn with_spans(a: Applies, starts: &[f64], ends: &[f64], counts: &[u32]) -> Applies
+    ensures { λ r. ⌜ r ≡ withSpans (spans (now (starts .entry)) (now (ends .entry)) (now (counts .entry))) a ⌝ }
+{
+    Applies {
+        lengths: either(
+            a.lengths,
+            span_lists_differ(starts.len(), ends.len(), counts.len()),
+        ),
+        counts: either(a.counts, many_spans(starts, ends, counts)),
+        times: either(a.times, bad_span_times(starts, ends)),
+        letters: a.letters,
+        levels: a.levels,
+        places: a.places,
+        cut: a.cut,
+    }
+}
+
+// And what applies of so many places, of which so many are needed: 6.
+pub fn with_places(a: Applies, places: usize, need: usize) -> Applies
+    ensures { λ r. ⌜ r ≡ withPlaces places need a ⌝ }
+{
+    Applies {
+        lengths: a.lengths,
+        counts: a.counts,
+        times: a.times,
+        letters: a.letters,
+        levels: a.levels,
+        places: either(a.places, few_places(places, need)),
+        cut: a.cut,
+    }
+}
+
 // What the tests find of a stage on sound: 3, 4, 1, 2, 7.
 pub fn sound_rule(
     starts: &[f64],
@@ -327,4 +404,43 @@ pub fn timed_rule(
 {
     let a = of_words(starts, ends, letters, units, keys);
     chain(with_time(with_levels(a, levels, samples), duration))
+}
+
+// What the tests find of words and a limit for evening: 3, 4, 1, 2.
+pub fn limit_rule(
+    starts: &[f64],
+    ends: &[f64],
+    letters: &[u32],
+    units: &[u32],
+    keys: &[u32],
+    limit: f64,
+) -> Rule
+    ensures { λ r. ⌜ r ≡ limitRule (words (now (starts .entry)) (now (ends .entry)) (now (letters .entry)) (now (units .entry)) (now (keys .entry))) limit ⌝ }
+{
+    let a = of_words(starts, ends, letters, units, keys);
+    chain(with_limit(a, limit))
+}
+
+// What the tests find of words, spans, and so many places where so many are needed: 3, 4, 1, 2, 6.
+pub fn spans_rule(
+    starts: &[f64],
+    ends: &[f64],
+    letters: &[u32],
+    units: &[u32],
+    keys: &[u32],
+    span_starts: &[f64],
+    span_ends: &[f64],
+    counts: &[u32],
+    places: usize,
+    need: usize,
+) -> Rule
+    ensures { λ r. ⌜ r ≡ spansRule (words (now (starts .entry)) (now (ends .entry)) (now (letters .entry)) (now (units .entry)) (now (keys .entry))) (spans (now («span_starts» .entry)) (now («span_ends» .entry)) (now (counts .entry))) places need ⌝ }
+{
+    let a = with_spans(
+        of_words(starts, ends, letters, units, keys),
+        span_starts,
+        span_ends,
+        counts,
+    );
+    chain(with_places(a, places, need))
 }

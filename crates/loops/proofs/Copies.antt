@@ -7,9 +7,9 @@ use borrow.Author.Tests.{le-leb, lt-leb}
 use lib.IntN.{ℤ, pos, sucℤ}
 use lib.Dec.{leb}
 use Rattle.base.specs.Loop.{on, out, run}
-use Rattle.base.specs.Words.{Words}
+use Rattle.base.specs.Words.{Words, count}
 use Rattle.base.proofs.Loops.{run-out}
-use Rattle.loops.specs.Loops.{count, same, copyTurn, copiesEnd}
+use Rattle.loops.specs.Loops.{same, copyTurn, copiesEnd}
 
 module _ (n : ℕ) (ws : Words) (i : ℕ) where
   abbrev more : ℕ → Bool

@@ -4,9 +4,9 @@ use mathlib.Core.Path.{_≡_, refl, sym, ap, _∙_}
 use mathlib.Core.List.{List, [], _∷_, _++_, append-nil}
 use native.Mathlib.Omega.{arith}
 use native.Mathlib.Numerals.{add-one}
-use lib.ListN.{length, take, drop, getD, set, replicate, length-append, length-drop, drop-of-length-le}
+use lib.ListN.{length, take, drop, getD, set, length-append, length-drop, drop-of-length-le}
 use lib.Seq.{getD-take, length-take-le, take-at, drop-append-add, drop-append-le, take-append-le, drop-drop, take-take, take-suc-set, drop-set-lt, take-set-lt, drop-cons, append-snoc}
-use Rattle.loops.specs.Loops.{drained, inPlaces}
+use Rattle.loops.specs.Loops.{drained}
 
 module _ {A : Type 0} where
   -- a part of the first p
@@ -54,12 +54,3 @@ module _ {A : Type 0} where
       move-whole (take m xs) p e (getD xs e d) h (omega arith)
       (drop-cons (take m xs) e d (omega arith) ∙ ap (λ (v : A). v ∷ drop (suc e) (take m xs)) (getD-take m xs e d k))
       ∙ ap (drained (p + 1) (e + 1)) (sym (take-set-lt m xs p (getD xs e d) (omega arith)))
-
-  -- ---- A list in its places, of which those from c on are zero: one place more.
-  pub cleared-next : (z : A) (m c : ℕ) (xs : List A) → c < m → m ≡ length xs
-      → inPlaces z m (take c xs) ≡ inPlaces z m (take (c + 1) (set xs c z))
-  cleared-next z m c xs h e =
-      let a : length (take c xs) ≡ c = length-take-le c xs (omega arith) in
-      let b : length (take c xs ++ (z ∷ [])) ≡ suc c = rw (length-append, a) (omega arith) in
-      let s : m - c ≡ suc (m - suc c) = omega arith in
-      rw (add-one, take-suc-set xs c z (omega arith), a, b, s) (sym (append-snoc (take c xs) z (replicate (m - suc c) z)))

@@ -6,9 +6,9 @@ use native.Mathlib.Omega.{arith}
 use borrow.Author.Tests.{leb-true, lt-ltb, le-ltb}
 use lib.Dec.{leb, ltb}
 use Rattle.base.specs.Loop.{each}
-use Rattle.base.specs.Words.{Words, words}
+use Rattle.base.specs.Words.{Words, words, count}
 use Rattle.base.proofs.Loops.{each-seen, each-holds}
-use Rattle.loops.specs.Loops.{maxRun, minCopies, count, same, copiesEnd, drain, Collapsed, isLoop, loopTurn, pass, collapseLoops}
+use Rattle.loops.specs.Loops.{maxRun, minCopies, same, copiesEnd, drain, Collapsed, isLoop, loopTurn, pass, collapseLoops}
 use Rattle.loops.specs.Parts.{goesOn, turnWords, passWords, loopWords}
 use Rattle.loops.proofs.Drained.{length-drained}
 use Rattle.loops.proofs.Copies.{copies-beyond}

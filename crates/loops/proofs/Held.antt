@@ -8,7 +8,8 @@ use borrow.Author.Tests.{le-leb, lt-leb}
 use lib.Dec.{leb}
 use lib.ListN.{length, take}
 use lib.Seq.{length-take-le}
-use Rattle.loops.specs.Loops.{minCopies, count, same, isLoop, copiesEnd}
+use Rattle.base.specs.Words.{count}
+use Rattle.loops.specs.Loops.{minCopies, same, isLoop, copiesEnd}
 use Rattle.loops.specs.Parts.{onlyKeys, heldKeys, goesOn}
 use Rattle.loops.proofs.Drained.{part-first, length-drained, part-front, part-back}
 use Rattle.loops.proofs.Copies.{from, from-first, from-next, from-stop, from-past}

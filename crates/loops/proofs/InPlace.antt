@@ -8,16 +8,15 @@ use native.Mathlib.Nat.{sub-zero}
 use borrow.Author.Tests.{lt-leb}
 use lib.ListN.{length, take, getD, set, length-set, take-append-drop}
 use lib.Seq.{length-take-le, take-take, take-all}
-use lib.Ieee.{Float, nan}
+use lib.Ieee.{nan}
 use Rattle.base.specs.Loop.{each}
-use Rattle.base.specs.Words.{Words, words}
+use Rattle.base.specs.Words.{Words, count}
+use Rattle.base.specs.Parts.{OneLength, firstWords}
 use Rattle.base.proofs.Loops.{each-next, each-done}
-use Rattle.loops.specs.Loops.{maxRun, minCopies, count, same, drained, drain, isLoop, copiesEnd}
-use Rattle.loops.specs.Parts.{OneLength, firstWords, moved, heldKeys, goesOn, turnWords, passWords, loopWords}
+use Rattle.base.proofs.Cleared.{words-alike}
+use Rattle.loops.specs.Loops.{maxRun, minCopies, same, drained, drain, isLoop, copiesEnd}
+use Rattle.loops.specs.Parts.{moved, heldKeys, goesOn, turnWords, passWords, loopWords}
 use Rattle.loops.proofs.Drained.{drained-again, drained-rest, drained-move}
-
-pub words-alike : {a a′ b b′ : List Float} {d d′ e e′ f f′ : List ℕ} → a ≡ a′ → b ≡ b′ → d ≡ d′ → e ≡ e′ → f ≡ f′ → words a b d e f ≡ words a′ b′ d′ e′ f′
-words-alike p q r s t = rw (p, q, r, s, t)
 
 -- ---- nothing drained
 pub drain-none : (p : ℕ) (ws : Words) → drain p p ws ≡ ws

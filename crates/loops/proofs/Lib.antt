@@ -4,7 +4,6 @@ pub mod Runs
 pub mod Copies
 pub mod Held
 pub mod InPlace
-pub mod Cleared
 pub mod Found
 pub mod Whole
 pub mod Kept

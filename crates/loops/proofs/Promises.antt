@@ -6,7 +6,8 @@ use mathlib.Core.Bool.{Bool}
 use mathlib.Core.Logic.{_↔_}
 use native.Mathlib.Omega.{arith}
 use lib.Dec.{ltb}
-use Rattle.base.specs.Words.{Words}
+use Rattle.base.specs.Words.{Words, count}
+use Rattle.base.specs.Parts.{firstWords}
 use Rattle.base.specs.declared.Refusal.{Refusal}
 use Rattle.base.specs.declared.Rule.{Rule}
 use Rattle.base.specs.declared.Rule.the-variants.{Fine, Breaks}
@@ -15,9 +16,8 @@ use Rattle.checks.specs.Order.{inOrder, chain}
 use Rattle.checks.specs.Calls.{ofWords}
 use Rattle.checks.proofs.Within.{WordsWithin, words-exactly}
 use Rattle.loops.specs.declared.Answer.the-variants.{Accepted, Refused}
-use Rattle.loops.specs.Loops.{count, collapseLoops}
+use Rattle.loops.specs.Loops.{collapseLoops}
 use Rattle.loops.specs.Calls.{Output, accepted, byRule, collapseCall}
-use Rattle.loops.specs.Parts.{firstWords}
 use Rattle.loops.proofs.Whole.{left-even, first-places}
 use Rattle.loops.proofs.Rules.{fine-even}
 use Rattle.loops.proofs.Found.{found-fewer, never-more}

@@ -1,21 +1,22 @@
 -- What the core leaves, from its parts, and the call by what its checks find. Assumes nothing.
 use Prim.Native.Nat.{ℕ, _≤_}
-use mathlib.Core.Path.{_≡_, refl, sym, ap, _∙_}
+use mathlib.Core.Path.{_≡_, sym, ap, _∙_}
 use lib.Dec.{ltb}
 use lib.Seq.{length-take-le}
-use Rattle.base.specs.Words.{Words}
+use Rattle.base.specs.Words.{Words, count, wordsInPlaces}
+use Rattle.base.specs.Parts.{OneLength, firstWords}
 use Rattle.base.specs.declared.Refusal.{Refusal}
 use Rattle.base.specs.declared.Rule.{Rule}
 use Rattle.base.specs.declared.Rule.the-variants.{Fine, Breaks}
 use Rattle.base.proofs.First.{fine-none}
 use Rattle.checks.specs.Order.{inOrder, chain}
 use Rattle.checks.specs.Calls.{ofWords}
-use Rattle.checks.proofs.Within.{words-exactly}
+use Rattle.checks.proofs.Within.{words-exactly, one-length}
 use Rattle.loops.specs.declared.Left.{Left}
 use Rattle.loops.specs.declared.Answer.the-variants.{Accepted, Refused}
-use Rattle.loops.specs.Loops.{count, collapseLoops, wordsInPlaces}
+use Rattle.loops.specs.Loops.{collapseLoops}
 use Rattle.loops.specs.Calls.{Output, output, accepted, collapseCall}
-use Rattle.loops.specs.Parts.{OneLength, firstWords, loopWords, Collapsing}
+use Rattle.loops.specs.Parts.{loopWords, Collapsing}
 use Rattle.loops.proofs.Found.{loops-words, found-fewer}
 
 -- ---- what the core leaves, from the passes and the places made zero
@@ -35,9 +36,7 @@ module _ (ws : Words) where
   -- words that are fine have lists of one length
   pub fine-even : chain (ofWords ws) ≡ Fine → OneLength (count ws) ws
   unfolding chain
-  fine-even h =
-      let w = words-exactly ws .1 (fine-none (inOrder (ofWords ws)) h) in
-      (sym (w .keys-as-long), (w .ends-as-long ∙ sym (w .keys-as-long), (w .letters-as-long ∙ sym (w .keys-as-long), (w .units-as-long ∙ sym (w .keys-as-long), refl))))
+  fine-even h = one-length (words-exactly ws .1 (fine-none (inOrder (ofWords ws)) h))
 
   pub accept-made : (left : Left) (after : Words) → Collapsing left ws after → output (Accepted (left .count) (left .found)) after ≡ accepted (collapseLoops ws) (count ws)
   accept-made left after c = rw (c .words, c .count, c .found)

@@ -6,11 +6,12 @@ use mathlib.Core.List.{List}
 use native.Mathlib.Omega.{arith}
 use lib.ListN.{length, take, drop, replicate, length-append, length-take, length-drop}
 use lib.Seq.{take-at}
-use Rattle.base.specs.Words.{Words}
+use Rattle.base.specs.Words.{Words, count, inPlaces, zeroF, wordsInPlaces}
+use Rattle.base.specs.Parts.{OneLength, firstWords}
 use Rattle.base.proofs.Loops.{each-holds}
-use Rattle.loops.specs.Loops.{maxRun, count, drained, drain, collapseLoops, inPlaces, zeroF, wordsInPlaces}
-use Rattle.loops.specs.Parts.{OneLength, firstWords, goesOn, turnWords, passWords, loopWords}
-use Rattle.loops.proofs.InPlace.{words-alike}
+use Rattle.loops.specs.Loops.{maxRun, drained, drain, collapseLoops}
+use Rattle.loops.specs.Parts.{goesOn, turnWords, passWords, loopWords}
+use Rattle.base.proofs.Cleared.{words-alike}
 use Rattle.loops.proofs.Found.{loops-words}
 
 drained-size : {A : Type 0} (p e : ℕ) (xs : List A) → length (drained p e xs) ≡ min p (length xs) + (length xs - e)

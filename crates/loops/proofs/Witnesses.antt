@@ -10,14 +10,14 @@ use lib.ListN.{length, replicate, length-replicate}
 use lib.Ieee.{Float, nan, fin, le, lt, eq, ofBits}
 use Rattle.base.specs.Loop.{each, run}
 use Rattle.base.specs.Refusals.{first}
-use Rattle.base.specs.Words.{Words, words}
+use Rattle.base.specs.Words.{Words, words, wordsInPlaces}
 use Rattle.base.specs.declared.Refusal.the-variants.{Lengths, Counts, Time, Letters}
 use Rattle.base.proofs.First.{first-skip, first-here, breaks-first}
 use Rattle.checks.specs.Limits.{any, timeOf}
 use Rattle.checks.specs.Order.{inOrder, chain}
 use Rattle.checks.specs.Calls.{uneven, ofWords}
 use Rattle.loops.specs.declared.Answer.the-variants.{Accepted, Refused}
-use Rattle.loops.specs.Loops.{equal, same, copiesEnd, isLoop, loopTurn, pass, collapseLoops, wordsInPlaces}
+use Rattle.loops.specs.Loops.{equal, same, copiesEnd, isLoop, loopTurn, pass, collapseLoops}
 use Rattle.loops.specs.Calls.{output, collapseCall}
 use Rattle.loops.specs.Parts.{onlyKeys}
 use Rattle.loops.proofs.Promises.{refused-exactly}

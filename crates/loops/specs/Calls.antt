@@ -1,11 +1,11 @@
 -- What the public call answers and leaves: "the new count, and a yes exactly when it is smaller". Assumes nothing.
 use Prim.Native.Nat.{ℕ}
-use Rattle.base.specs.Words.{Words}
+use Rattle.base.specs.Words.{Words, count, wordsInPlaces}
 use Rattle.base.specs.declared.Rule.{Rule}
 use Rattle.base.specs.declared.Rule.the-variants.{Fine, Breaks}
 use Rattle.checks.specs.Order.{chain}
 use Rattle.checks.specs.Calls.{ofWords}
-use Rattle.loops.specs.Loops.{count, Collapsed, collapseLoops, wordsInPlaces}
+use Rattle.loops.specs.Loops.{Collapsed, collapseLoops}
 use Rattle.loops.specs.declared.Answer.{Answer}
 use Rattle.loops.specs.declared.Answer.the-variants.{Accepted, Refused}
 

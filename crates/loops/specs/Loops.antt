@@ -1,13 +1,12 @@
 -- loops.rs, and document 01's "Loops": "three or more equal neighbouring runs of n keys become one", for n = 1 to 4. Assumes nothing.
-use Prim.Native.Nat.{ℕ, _+_, _-_, _*_}
+use Prim.Native.Nat.{ℕ, _+_, _*_}
 use mathlib.Core.Bool.{Bool, true, false, cond, _&&_}
 use mathlib.Core.List.{List, [], _∷_, _++_}
 use lib.IntN.{ℤ, pos}
 use lib.Dec.{eqb, leb}
-use lib.ListN.{length, take, drop, replicate}
-use lib.Ieee.{Float, binary64, ofBits}
+use lib.ListN.{take, drop}
 use Rattle.base.specs.Loop.{Turn, on, out, each, run}
-use Rattle.base.specs.Words.{Words, words}
+use Rattle.base.specs.Words.{Words, words, count}
 
 -- ---- MAX_RUN: n goes up to 4. MIN_COPIES: three equal runs are a loop.
 abbrev pub maxRun : ℕ
@@ -15,10 +14,6 @@ maxRun = 4
 
 abbrev pub minCopies : ℕ
 minCopies = 3
-
--- ---- How many words there are.
-abbrev pub count : Words → ℕ
-count ws = length (ws .keys)
 
 -- ---- Two lists of keys are equal.
 unfoldable pub equal : List ℕ → List ℕ → Bool
@@ -71,14 +66,3 @@ pass n c = each (loopTurn n) (count (c .words)) 0 c
 -- ---- collapse_loops: for n in 1..=MAX_RUN
 unfoldable pub collapseLoops : Words → Collapsed
 collapseLoops ws = each pass maxRun 1 (record { words = ws; found = false })
-
--- ---- "Places past it become all zero": a list in so many places.
-abbrev pub inPlaces : {A : Type 0} → A → ℕ → List A → List A
-inPlaces zero places xs = xs ++ replicate (places - length xs) zero
-
-abbrev pub zeroF : Float
-zeroF = ofBits binary64 0
-
-unfoldable pub wordsInPlaces : ℕ → Words → Words
-wordsInPlaces places ws =
-    words (inPlaces zeroF places (ws .starts)) (inPlaces zeroF places (ws .ends)) (inPlaces 0 places (ws .letters)) (inPlaces 0 places (ws .units)) (inPlaces 0 places (ws .keys))

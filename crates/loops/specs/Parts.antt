@@ -3,21 +3,12 @@ use Prim.Native.Nat.{ℕ, _+_}
 use mathlib.Core.Path.{_≡_}
 use mathlib.Core.Bool.{cond}
 use mathlib.Core.List.{List, []}
-use lib.ListN.{length, take, getD, set}
+use lib.ListN.{take, getD, set}
 use lib.Ieee.{nan}
 use Rattle.base.specs.Loop.{each}
-use Rattle.base.specs.Words.{Words, words}
-use Rattle.loops.specs.Loops.{maxRun, count, drained, drain, isLoop, copiesEnd, collapseLoops, wordsInPlaces}
+use Rattle.base.specs.Words.{Words, words, count, wordsInPlaces}
+use Rattle.loops.specs.Loops.{maxRun, drained, drain, isLoop, copiesEnd, collapseLoops}
 use Rattle.loops.specs.declared.Left.{Left}
-
--- ---- All five lists of the words have so many places.
-abbrev pub OneLength : ℕ → Words → Type 0
-OneLength m ws =
-    (length (ws .starts) ≡ m) × ((length (ws .ends) ≡ m) × ((length (ws .letters) ≡ m) × ((length (ws .units) ≡ m) × (length (ws .keys) ≡ m))))
-
--- ---- The first so many words.
-unfoldable pub firstWords : ℕ → Words → Words
-firstWords m ws = words (take m (ws .starts)) (take m (ws .ends)) (take m (ws .letters)) (take m (ws .units)) (take m (ws .keys))
 
 -- ---- The word at place `from`, at place `to` too.
 unfoldable pub moved : ℕ → ℕ → Words → Words

@@ -3,9 +3,10 @@ ghost use Prim.Native.Nat.{_+_, _-_, _≤_, _<_};
 ghost use mathlib.Core.Path.{_≡_};
 ghost use lib.ListN.{length};
 ghost use Rattle.base.specs.Words.{words};
-ghost use Rattle.loops.specs.Loops.{same as sameOf, isLoop, copiesEnd, collapseLoops, wordsInPlaces};
+ghost use Rattle.base.specs.Parts.{OneLength, firstWords};
+ghost use Rattle.loops.specs.Loops.{same as sameOf, isLoop, copiesEnd, collapseLoops};
 ghost use Rattle.loops.specs.Calls.{output, accepted, collapseCall};
-ghost use Rattle.loops.specs.Parts.{OneLength, firstWords, moved, onlyKeys, heldKeys, goesOn, passWords, loopWords, Collapsing};
+ghost use Rattle.loops.specs.Parts.{moved, onlyKeys, heldKeys, goesOn, passWords, loopWords, Collapsing};
 use base::Refusal;
 use base::Rule;
 
@@ -163,29 +164,6 @@ fn passes(
     len
 }
 
-// Makes every place from `count` on zero.
-fn clear(
-    starts: &mut [f64],
-    ends: &mut [f64],
-    letters: &mut [u32],
-    units: &mut [u32],
-    keys: &mut [u32],
-    count: usize,
-)
-    requires { ⌜ (OneLength (length (now keys)) (words (now starts) (now ends) (now letters) (now units) (now keys))) × (count ≤ length (now keys)) ⌝ }
-    ensures { λ _. ⌜ words (now (starts .exit)) (now (ends .exit)) (now (letters .exit)) (now (units .exit)) (now (keys .exit)) ≡ wordsInPlaces (length (now (keys .entry))) (firstWords count (words (now (starts .entry)) (now (ends .entry)) (now (letters .entry)) (now (units .entry)) (now (keys .entry)))) ⌝ }
-{
-    let mut i = count;
-    while i < keys.len() {
-        starts[i] = 0.0;
-        ends[i] = 0.0;
-        letters[i] = 0;
-        units[i] = 0;
-        keys[i] = 0;
-        i += 1;
-    }
-}
-
 // Collapses all loops in place, unchecked (loops.rs, collapse_loops).
 pub fn collapse(
     starts: &mut [f64],
@@ -198,7 +176,7 @@ pub fn collapse(
     ensures { λ r. ⌜ Collapsing r (words (now (starts .entry)) (now (ends .entry)) (now (letters .entry)) (now (units .entry)) (now (keys .entry))) (words (now (starts .exit)) (now (ends .exit)) (now (letters .exit)) (now (units .exit)) (now (keys .exit))) ⌝ }
 {
     let len = passes(starts, ends, letters, units, keys);
-    clear(starts, ends, letters, units, keys, len);
+    base::clear(starts, ends, letters, units, keys, len);
     Left {
         count: len,
         found: len < keys.len(),

@@ -4,7 +4,8 @@ use mathlib.Core.Path.{_≡_, refl, sym, _∙_}
 use native.Mathlib.Omega.{arith}
 use lib.ListN.{length}
 use Rattle.base.specs.Words.{words}
-use Rattle.loops.specs.Parts.{OneLength, firstWords, passWords}
+use Rattle.base.specs.Parts.{OneLength, firstWords}
+use Rattle.loops.specs.Parts.{passWords}
 use Rattle.loops.proofs.InPlace.{even-moved, after, after-first, after-next, after-done}
 use Rattle.loops.proofs.collapse_runs.Statement.{statement}
 use Rattle.loops.proofs.collapse_runs.Tie as tie

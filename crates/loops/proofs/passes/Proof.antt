@@ -4,7 +4,8 @@ use mathlib.Core.Path.{_≡_, refl, sym, _∙_}
 use native.Mathlib.Omega.{arith}
 use lib.ListN.{length}
 use Rattle.base.specs.Words.{words}
-use Rattle.loops.specs.Parts.{OneLength, firstWords, loopWords}
+use Rattle.base.specs.Parts.{OneLength, firstWords}
+use Rattle.loops.specs.Parts.{loopWords}
 use Rattle.loops.proofs.InPlace.{passesFrom, passes-first, passes-next, passes-done}
 use Rattle.loops.proofs.passes.Statement.{statement}
 use Rattle.loops.proofs.passes.Tie as tie

@@ -1,14 +1,13 @@
--- `loops::clear` meets its contract: the places from `i` on that are still to be made zero. Assumes nothing.
+-- `base::clear` meets its contract: the places from `i` on that are still to be made zero. Assumes nothing.
 use Prim.Native.Nat.{_-_, _≤_}
 use mathlib.Core.Path.{_≡_, refl, sym, _∙_}
 use native.Mathlib.Omega.{arith}
 use lib.ListN.{length, length-set}
-use Rattle.base.specs.Words.{words}
-use Rattle.loops.specs.Loops.{wordsInPlaces}
-use Rattle.loops.specs.Parts.{OneLength, firstWords}
-use Rattle.loops.proofs.Cleared.{clear-next, clear-done}
-use Rattle.loops.proofs.clear.Statement.{statement}
-use Rattle.loops.proofs.clear.Tie as tie
+use Rattle.base.specs.Words.{words, wordsInPlaces}
+use Rattle.base.specs.Parts.{OneLength, firstWords}
+use Rattle.base.proofs.Cleared.{clear-next, clear-done}
+use Rattle.base.proofs.clear.Statement.{statement}
+use Rattle.base.proofs.clear.Tie as tie
 
 abbrev Inv-loop : tie.InvT-loop
 Inv-loop starts₀ ends₀ letters₀ units₀ keys₀ count i₀ starts ends letters units keys i =

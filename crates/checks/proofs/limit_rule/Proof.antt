@@ -1,0 +1,20 @@
+-- `checks::limit_rule` meets its contract. Assumes nothing.
+use borrow.Author.Needs.{needs}
+use Rattle.checks.proofs.Filled.{limitRule-made}
+use Rattle.checks.proofs.limit_rule.Statement.{statement}
+use Rattle.checks.proofs.limit_rule.Tie as tie
+
+of-words-requires : tie.Need-of-words-requires
+of-words-requires c κs = search needs
+
+with-limit-requires : tie.Need-with-limit-requires
+with-limit-requires c κs = search needs
+
+chain-requires : tie.Need-chain-requires
+chain-requires c κs = search needs
+
+returns : tie.Need-returns
+returns c = limitRule-made _ (c .before .before .of-words .ensures) _ (c .before .with-limit .ensures) (c .chain .ensures)
+
+pub limit-rule-spec : {M : Type 1} → statement M
+limit-rule-spec = tie.close (tie.spec of-words-requires with-limit-requires chain-requires returns)

@@ -1,0 +1,3 @@
+-- Crushed words given back their time.
+pub mod Even
+pub mod Calls

@@ -1,0 +1,83 @@
+-- `phrase_align::place_stray` meets its contract. Assumes nothing.
+use borrow.Author.Needs.{needs}
+use Rattle.base.specs.Words.{edges}
+use Rattle.phrase_align.proofs.Around.{between-stays, between-moves}
+use Rattle.phrase_align.proofs.place_stray.Statement.{statement}
+use Rattle.phrase_align.proofs.place_stray.Tie as tie
+
+inside-at-requires : tie.Need-inside-at-requires
+inside-at-requires c κs = search needs
+
+same-length : tie.Need-same-length
+same-length c = search needs
+
+same-length-2 : tie.Need-same-length-2
+same-length-2 c = search needs
+
+returns : tie.Need-returns
+returns c = between-stays _ _ _ (edges _ _) (c .before .inside-at .ensures) (c .if1 .taken)
+
+sub-start : tie.Need-sub-start
+sub-start c = search needs
+
+mul-start : tie.Need-mul-start
+mul-start c = search needs
+
+slice-read-start : tie.Need-slice-read-start
+slice-read-start c = search needs
+
+add-js-max : tie.Need-add-js-max
+add-js-max c = search needs
+
+mul-js-max : tie.Need-mul-js-max
+mul-js-max c = search needs
+
+slice-read-js-max : tie.Need-slice-read-js-max
+slice-read-js-max c = search needs
+
+js-max-requires : tie.Need-js-max-requires
+js-max-requires c κs = search needs
+
+mul-starts : tie.Need-mul-starts
+mul-starts c = search needs
+
+slice-write-starts : tie.Need-slice-write-starts
+slice-write-starts c = search needs
+
+mul-ends : tie.Need-mul-ends
+mul-ends c = search needs
+
+slice-write-ends : tie.Need-slice-write-ends
+slice-write-ends c = search needs
+
+same-length-3 : tie.Need-same-length-3
+same-length-3 c = search needs
+
+same-length-4 : tie.Need-same-length-4
+same-length-4 c = search needs
+
+returns-2 : tie.Need-returns-2
+returns-2 c = between-moves _ _ _ (edges _ _) (c .before .before .before .before .inside-at .ensures) (c .before .before .before .if1 .left) (c .js-max .ensures)
+
+pub place-stray-spec : {M : Type 1} → statement M
+place-stray-spec =
+    tie.close
+    (tie.spec
+    inside-at-requires
+    same-length
+    same-length-2
+    returns
+    sub-start
+    mul-start
+    slice-read-start
+    add-js-max
+    mul-js-max
+    slice-read-js-max
+    js-max-requires
+    mul-starts
+    slice-write-starts
+    mul-ends
+    slice-write-ends
+    same-length-3
+    same-length-4
+    returns-2)

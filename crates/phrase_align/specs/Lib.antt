@@ -1,0 +1,5 @@
+-- Words placed in the spans of their phrases.
+pub mod Spread
+pub mod PhraseAlign
+pub mod Calls
+pub mod Parts

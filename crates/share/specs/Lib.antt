@@ -1,0 +1,2 @@
+-- A time shared out by letters.
+pub mod Share
