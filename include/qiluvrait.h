@@ -193,11 +193,11 @@ struct qiluvrait_placed {
  * 0.02 s after it or sooner, and lasts 0.04 s or longer: it keeps its times. Where a span has no such
  * word, its words share the span by letters. Else the words before the first inside one share the time
  * from the span's start to that word's start, and the words after the last inside one the time from
- * that word's end to the span's end; time below zero counts as none. Any other word starts where the
- * word before it ends, and ends where the next one started before it was moved, or where it starts
- * itself, if that is later. Words past all counts are dropped: their places become zero in all five
- * lists and in phrases. Needs a phrase place for every word; further ones stay. Without spans every
- * word is dropped. Refusals: 3, 4, 1, 2, 6.
+ * that word's end to the span's end. In all three a time below zero counts as none. Any other word
+ * starts where the word before it ends, and ends where the next one started before it was moved, or
+ * where it starts itself, if that is later. Words past all counts are dropped: their places become zero
+ * in all five lists and in phrases. Needs a phrase place for every word; further ones stay. Without
+ * spans every word is dropped. Refusals: 3, 4, 1, 2, 6.
  */
 struct qiluvrait_placed qiluvrait_align_phrases(double *starts, size_t starts_len, double *ends,
                                                 size_t ends_len, uint32_t *letters, size_t letters_len,
@@ -209,16 +209,17 @@ struct qiluvrait_placed qiluvrait_align_phrases(double *starts, size_t starts_le
 
 /*
  * Evening. A word shorter than 0.08 s is crushed. Crushed words in a row are a run, and the word before
- * them belongs to it that lasts longer than 0.25 s and 0.12 s for each of its letters. While the next
- * word starts too soon to leave 0.05 s for each letter of the run, and the run's last word stands fewer
- * than 6 places behind its first, the run takes it along. Then it has a ceiling: the next word's start,
+ * them belongs to it that lasts longer than 0.25 s plus 0.12 s for each of its letters. Runs are taken
+ * from left to right, and a later one may take words that an earlier one moved. While the next word's
+ * start leaves less than 0.05 s for each letter of the run, and the run's last word stands fewer than 6
+ * places behind its first, the run takes that word along. Then it has a ceiling: the next word's start,
  * or behind the last word the sooner of the limit and 0.12 s for each of that word's letters after its
- * end. While the ceiling is too soon in the same way, it takes the word before along. The run ends at
- * the ceiling, or 0.12 s for each letter and 0.1 s for each word after its start, if that is sooner,
- * but not before its last word ended; and its words share that time by letters. Where that end is
- * before the run's start, they run backwards. The limit, in seconds, is among the times for refusal 1
- * and may be +infinity. Answers 0 where it accepts, whether a time moved or not, else the refusal: 3,
- * 4, 1 or 2. Writes starts and ends.
+ * end. While the ceiling leaves less than 0.05 s for each letter, and the last word stands fewer than 6
+ * places behind the first, the run takes the word before it along. It ends at the ceiling, or 0.12 s for
+ * each letter and 0.1 s for each word after its start, if that is sooner, but not before its last word
+ * ended; and its words share that time by letters. Where that end is before the run's start, they run
+ * backwards. The limit, in seconds, is among the times for refusal 1 and may be +infinity. Answers 0
+ * where it accepts, whether a time moved or not, else the refusal: 3, 4, 1 or 2. Writes starts and ends.
  */
 uint32_t qiluvrait_even_out(double *starts, size_t starts_len, double *ends, size_t ends_len,
                             const uint32_t *letters, size_t letters_len, const uint32_t *units,

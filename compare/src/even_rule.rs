@@ -9,9 +9,9 @@ use crate::words::odd_times;
 /// What the rule goes by.
 #[derive(Clone, Copy)]
 pub struct Rule {
-    /// A run grows to the right while its last word is fewer than so many words past its first.
+    /// With its last word so many places behind its first, a run takes no word after it along.
     pub grow: usize,
-    /// It borrows to the left while that holds for this number.
+    /// And with so many, none before it.
     pub borrow: usize,
     /// What a word needs room for.
     pub weight: fn(&Text) -> f64,

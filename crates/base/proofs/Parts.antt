@@ -84,6 +84,10 @@ onPart-long a e f es h =
     let v = f (partEdges a e es) in
     both (withPart-long a e (es .starts) (v .starts) (ap (λ (n : ℕ × ℕ). n .0) h)) (withPart-long a e (es .ends) (v .ends) (ap (λ (n : ℕ × ℕ). n .1) h))
 
+-- ---- a word's two times
+pub times-alike : {s s′ t t′ : Float} → s ≡ s′ → t ≡ t′ → times s t ≡ times s′ t′
+times-alike p q = rw (p, q)
+
 -- ---- a word before the part, and one behind it, stays as it is
 module _ (a e : ℕ) (f : Edges → Edges) (es : Edges) (from : a ≤ e) (to : e ≤ length (es .starts)) (to-2 : e ≤ length (es .ends)) (kept : long (f (partEdges a e es)) ≡ long (partEdges a e es)) where
   starts-lent : length (f (partEdges a e es) .starts) ≡ e - a
@@ -92,16 +96,13 @@ module _ (a e : ℕ) (f : Edges → Edges) (es : Edges) (from : a ≤ e) (to : e
   ends-lent : length (f (partEdges a e es) .ends) ≡ e - a
   ends-lent = ap (λ (n : ℕ × ℕ). n .1) kept ∙ unfold partEdges in part-long a e (es .ends) to-2
 
-  alike : {s s′ t t′ : Float} → s ≡ s′ → t ≡ t′ → times s t ≡ times s′ t′
-  alike p q = rw (p, q)
-
   pub onPart-before : (j : ℕ) → j < a → timesAt (onPart a e f es) j ≡ timesAt es j
   unfolding onPart
   onPart-before j h =
-      alike (part-before (es .starts) (f (partEdges a e es) .starts) a e from to starts-lent j nan h) (part-before (es .ends) (f (partEdges a e es) .ends) a e from to-2 ends-lent j nan h)
+      times-alike (part-before (es .starts) (f (partEdges a e es) .starts) a e from to starts-lent j nan h) (part-before (es .ends) (f (partEdges a e es) .ends) a e from to-2 ends-lent j nan h)
 
   pub onPart-after : (j : ℕ) → e ≤ j → timesAt (onPart a e f es) j ≡ timesAt es j
   unfolding onPart
   onPart-after j h =
       let z : e + (j - e) ≡ j = omega arith in
-      rw (← z) (alike (part-after (es .starts) (f (partEdges a e es) .starts) a e from to starts-lent (j - e) nan) (part-after (es .ends) (f (partEdges a e es) .ends) a e from to-2 ends-lent (j - e) nan))
+      rw (← z) (times-alike (part-after (es .starts) (f (partEdges a e es) .starts) a e from to starts-lent (j - e) nan) (part-after (es .ends) (f (partEdges a e es) .ends) a e from to-2 ends-lent (j - e) nan))

@@ -65,8 +65,8 @@ min-none (inf false) = refl
 min-none (fin s m e) = refl
 
 -- in whole seconds
-coarse : (c : ℕ) (x : Float) → c ≤ farthest → UnderIn steps c x → UnderIn 1 8191 x
-coarse c x l h = under-coarser 1 steps 8191 x (lit< tt) (under-more steps c farthest x l h)
+coarse : (c : ℕ) (x : Float) → c ≤ farthest → UnderIn steps c x → UnderIn 1 8192 x
+coarse c x l h = under-coarser 1 steps 8192 x (lit< tt) (under-more steps c (8192 * steps) x (omega arith) h)
 
 module _ (letters : List ℕ) (ls : AllFrom 1 1000 letters) (few : length letters ≤ 4096) (limit : Float) where
   -- ---- the words of a run
@@ -100,9 +100,9 @@ module _ (letters : List ℕ) (ls : AllFrom 1 1000 letters) (few : length letter
     slow-number : (a j : ℕ) → a ≤ j → j < length letters → isNan (getD (es .starts) a nan ⊕ slowLetter ⊗ sum letters a j ⊕ slowWord ⊗ num (j - a + 1)) ≡ false
     unfolding sum
     slow-number a j h l =
-        under-number 1 (8191 + 4096000 + 4096) (start ⊕ slowLetter ⊗ num total ⊕ slowWord ⊗ num (j - a + 1))
-        (add-under 0 (lit≤ tt) (8191 + 4096000) 4096 (start ⊕ slowLetter ⊗ num total) (slowWord ⊗ num (j - a + 1)) (lit< tt)
-        (add-under 0 (lit≤ tt) 8191 4096000 start (slowLetter ⊗ num total) (lit< tt) (coarse c start C (w .small .starts a (omega (arith, w .starts-long))))
+        under-number 1 (8192 + 4096000 + 4096) (start ⊕ slowLetter ⊗ num total ⊕ slowWord ⊗ num (j - a + 1))
+        (add-under 0 (lit≤ tt) (8192 + 4096000) 4096 (start ⊕ slowLetter ⊗ num total) (slowWord ⊗ num (j - a + 1)) (lit< tt)
+        (add-under 0 (lit≤ tt) 8192 4096000 start (slowLetter ⊗ num total) (lit< tt) (coarse c start C (w .small .starts a (omega (arith, w .starts-long))))
         (scaled-under 0 (lit≤ tt) slowLetter 0x1e_b851_eb85_1eb8 (2 ^ 56) total 4096000 letter-value (lit< tt) (omega (arith, total-most)) (lit< tt) (omega (arith, total-most))))
         (scaled-under 0 (lit≤ tt) slowWord 0x19_9999_9999_999a (2 ^ 56) (j - a + 1) 4096 word-value (lit< tt) (omega arith) (lit< tt) (omega arith)))
       where

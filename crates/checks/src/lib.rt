@@ -1,7 +1,7 @@
 // The tests behind the refusals of document 01, and their order.
 ghost use mathlib.Core.Path.{_≡_};
-ghost use mathlib.Core.Bool.{_||_};
-ghost use Rattle.checks.specs.Limits.{any, timeOf, limitOf, badTime, badLimit, badWordTimes, badSpanTimes, badLetters, badCounts, outside, differ, many as manyOf, manySamples, fewPlaces, otherLevels};
+ghost use mathlib.Core.Bool.{not, _||_};
+ghost use Rattle.checks.specs.Limits.{any, timeOf, limitOf, isFine, badTime, badLimit, badWordTimes, badSpanTimes, badLetters, badCounts, outside, differ, many as manyOf, manySamples, fewPlaces, otherLevels};
 ghost use Rattle.checks.specs.Parts.{noTime};
 ghost use Rattle.checks.specs.Order.{chain as chainOf};
 ghost use Rattle.checks.specs.Calls.{uneven, ofWords, withLevels, withTime, withLimit, unevenSpans, manySpans, withSpans, withPlaces, soundRule, timedRule, limitRule, spansRule};
@@ -97,11 +97,10 @@ pub fn limit_test(t: f64) -> TimeTest
     time_test(t)
 }
 
-// Whether a time is not fine.
-pub fn bad_time(t: f64) -> bool
-    ensures { λ r. ⌜ r ≡ badTime t ⌝ }
+// Whether a test found anything but fine.
+fn not_fine(found: TimeTest) -> bool
+    ensures { λ r. ⌜ r ≡ not (isFine found) ⌝ }
 {
-    let found = time_test(t);
     match found {
         TimeTest::Fine => false,
         TimeTest::NotFinite => true,
@@ -109,16 +108,18 @@ pub fn bad_time(t: f64) -> bool
     }
 }
 
+// Whether a time is not fine.
+pub fn bad_time(t: f64) -> bool
+    ensures { λ r. ⌜ r ≡ badTime t ⌝ }
+{
+    not_fine(time_test(t))
+}
+
 // Whether a limit for evening is not fine.
 pub fn bad_limit(t: f64) -> bool
     ensures { λ r. ⌜ r ≡ badLimit t ⌝ }
 {
-    let found = limit_test(t);
-    match found {
-        TimeTest::Fine => false,
-        TimeTest::NotFinite => true,
-        TimeTest::Outside => true,
-    }
+    not_fine(limit_test(t))
 }
 
 // Whether some time of a list is not fine.

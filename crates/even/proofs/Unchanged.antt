@@ -8,8 +8,12 @@ use lib.Dec.{ltb}
 use lib.ListN.{length}
 use lib.Ieee.{Float}
 use borrow.Author.Tests.{ltb-true, ltb-false}
-use Rattle.base.specs.Words.{Edges}
+use Rattle.base.specs.Words.{Words, Edges, edges, withEdges}
+use Rattle.base.specs.declared.Rule.{Rule}
+use Rattle.base.specs.declared.Rule.the-variants.{Fine, Breaks}
 use Rattle.base.proofs.Loops.{each-holds}
+use Rattle.checks.specs.Calls.{limitRule, moved}
+use Rattle.even.specs.Calls.{evenCall}
 use Rattle.even.specs.Even.{crushed, evenOut, Evening, evenTurn}
 use Rattle.even.proofs.Runs.{turn-long}
 use Rattle.even.proofs.Turns.{turn-past}
@@ -27,3 +31,11 @@ module _ (letters : List ℕ) (limit : Float) (es : Edges) (none : (i : ℕ) →
       each-holds (λ (_ : ℕ) (s : Evening). s .edges ≡ es) (λ (_ : ℕ). evenTurn letters limit) (length (es .starts))
       (λ (_ : ℕ) (s : Evening) _ e. ap (λ (x : Edges). evenTurn letters limit (record { edges = x; i = s .i }) .edges) e ∙ turn-same (s .i))
       (length (es .starts)) 0 (record { edges = es; i = 0 }) (omega arith) refl
+
+-- ---- the call leaves it as it is, accepted or refused
+pub call-unchanged : (ws : Words) (limit : Float) → ((i : ℕ) → i < length (ws .starts) → crushed (edges (ws .starts) (ws .ends)) i ≡ false) → evenCall ws limit .words ≡ ws
+unfolding evenCall
+call-unchanged ws limit none = go (limitRule ws limit) where
+  go : (r : Rule) → moved r (evenOut (ws .letters) limit (edges (ws .starts) (ws .ends))) ws .words ≡ ws
+  go Fine = ap (λ (es : Edges). withEdges es ws) (unchanged (ws .letters) limit (edges (ws .starts) (ws .ends)) none)
+  go (Breaks r) = refl

@@ -56,6 +56,11 @@ borrows-time : evenCall (two (time 0 0) (time 1 1) (time 1 1) (time 9 4)) (time 
 unfolding evenCall limitRule chain inOrder withLimit ofWords uneven first any timeOf limitOf evenOut evenTurn stretchOf evenRun crushed swollen firstCrushed withSwollen lastCrushed grows grown ceilingOf borrows borrowed endOf even.sum onPart partEdges shares.share shares.sum each fold down up jsMin jsMax under isNan add sub neg sum mul div lt le eq ofInt round size span climb units odd ofBits ofFields trailingZeros
 borrows-time = refl
 
+-- both words end before they start, and the last end stays past the limit: they share the time from 1 s back to 1 / 2 s
+runs-backwards : evenCall (two (time 1 0) (time 3 2) (time 1 0) (time 1 1)) (time 1 2) ≡ output Accepted (two (time 1 0) (time 3 2) (time 3 2) (time 1 1))
+unfolding evenCall limitRule chain inOrder withLimit ofWords uneven first any timeOf limitOf evenOut evenTurn stretchOf evenRun crushed swollen firstCrushed withSwollen lastCrushed grows grown ceilingOf borrows borrowed endOf even.sum onPart partEdges shares.share shares.sum each fold down up jsMin jsMax under isNan add sub neg sum mul div lt le eq ofInt round size span climb units odd ofBits ofFields trailingZeros
+runs-backwards = refl
+
 refuses-3 : let ws = words (time 0 0 ∷ []) [] [] [] [] in evenCall ws (inf false) ≡ output (Refused Lengths) ws
 unfolding evenCall limitRule chain inOrder withLimit ofWords uneven first
 refuses-3 = refl

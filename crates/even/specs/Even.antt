@@ -31,7 +31,7 @@ minLetter = ofBits binary64 0x3fa9_9999_9999_999a
 abbrev pub slowWord : Float
 slowWord = ofBits binary64 0x3fb9_9999_9999_999a
 
--- ---- MAX_SPAN: a run grows while its last word is fewer than 6 words past its first.
+-- ---- MAX_SPAN: with its last word 6 places behind its first, a run takes no more words along.
 abbrev pub maxSpan : ℕ
 maxSpan = 6
 

@@ -1,3 +1,3 @@
--- Crushed words given back their time.
+-- Crushed words, and the time they get.
 pub mod Even
 pub mod Calls

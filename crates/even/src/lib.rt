@@ -1,4 +1,4 @@
-// Crushed words given back their time (even.rs).
+// Words too short to have been said, and the time they get (even.rs, even_out).
 ghost use mathlib.Core.Path.{_≡_};
 ghost use mathlib.Core.Bool.{_&&_};
 ghost use mathlib.Core.List.{List};
@@ -14,9 +14,9 @@ ghost use Rattle.even.specs.Calls.{evenCall};
 use base::Rule;
 use checks::Answer;
 
-// What a word lasts, in seconds, at the least, or it is crushed.
+// A word of fewer seconds is crushed.
 const CRUSHED: f64 = 0.08;
-// What a word may last, in seconds, on top of its letters said slowly, or it is swollen.
+// A word of more seconds than this, and its letters said slowly, is swollen.
 const SWOLLEN_BASE: f64 = 0.25;
 // What a letter takes, in seconds, when it is said slowly.
 const SLOW_LETTER: f64 = 0.12;
@@ -24,7 +24,7 @@ const SLOW_LETTER: f64 = 0.12;
 const MIN_LETTER: f64 = 0.05;
 // What a slow word takes, in seconds, beyond its letters.
 const SLOW_WORD: f64 = 0.1;
-// So many words past its first, the last word of a run takes no other along.
+// Where the last word of a run stands so many places behind the first, the run takes no more words along.
 const MAX_SPAN: usize = 6;
 
 // A run of words: the first, the last, and where the last one ends.
@@ -42,7 +42,7 @@ fn is_crushed(starts: &[f64], ends: &[f64], i: usize) -> bool
     ends[i] - starts[i] < CRUSHED
 }
 
-// A word that is much longer than its letters take.
+// A word that lasts longer than its letters can take.
 fn is_swollen(starts: &[f64], ends: &[f64], letters: &[u32], i: usize) -> bool
     requires { ⌜ (i < length (now starts)) × ((i < length (now ends)) × (i < length (now letters))) ⌝ }
     ensures { λ r. ⌜ r ≡ swollen (now (letters .entry)) (edges (now (starts .entry)) (now (ends .entry))) i ⌝ }
@@ -214,7 +214,7 @@ fn even_turn(starts: &mut [f64], ends: &mut [f64], letters: &[u32], limit: f64, 
     i + 1
 }
 
-// Spreads each run of crushed words by letters (even.rs, even_out); nothing is checked.
+// Shares out the time of each run of crushed words (even.rs, even_out); nothing is checked.
 pub fn even_words(starts: &mut [f64], ends: &mut [f64], letters: &[u32], limit: f64)
     requires { ⌜ (length (now ends) ≡ length (now starts)) × ((length (now letters) ≡ length (now starts)) × (length (now starts) ≤ 4096)) ⌝ }
     ensures { λ _. ⌜ edges (now (starts .exit)) (now (ends .exit)) ≡ evenOut (now (letters .entry)) limit (edges (now (starts .entry)) (now (ends .entry))) ⌝ }
@@ -225,7 +225,7 @@ pub fn even_words(starts: &mut [f64], ends: &mut [f64], letters: &[u32], limit: 
     }
 }
 
-// Gives crushed words back their time, of words and a limit within the limits (even.rs, even_out).
+// Gives crushed words time, of words and a limit within the limits (even.rs, even_out).
 pub fn even_out(
     starts: &mut [f64],
     ends: &mut [f64],

@@ -1,12 +1,13 @@
 -- What an accepted call of `align_phrases` answers and leaves, in plain words: the new count is the least of the words and the sum of the counts; each
--- word kept has the number of the span among whose words it is, and keeps both its times where it is inside that span. Assumes nothing.
-use Prim.Native.Nat.{ℕ, _<_, min}
-use mathlib.Core.Path.{_≡_, _∙_}
+-- word kept has the number of the span among whose words it is, keeps both its times where it is inside that span, and its letters, units and key; the other
+-- words' places become zero, and further phrase places stay. Assumes nothing.
+use Prim.Native.Nat.{ℕ, _-_, _<_, min}
+use mathlib.Core.Path.{_≡_, sym, ap, _∙_}
 use mathlib.Core.Bool.{true}
-use mathlib.Core.List.{List, _++_}
+use mathlib.Core.List.{List, _++_, append-assoc}
 use native.Mathlib.Omega.{arith}
-use lib.ListN.{getD, length, drop, length-append, List·getD-append}
-use lib.Seq.{length-take-le}
+use lib.ListN.{getD, length, drop, length-append, List·getD-append, take, replicate}
+use lib.Seq.{length-take-le, drop-at}
 use lib.Ieee.{nan}
 use Rattle.base.specs.Words.{Words, Spans, count, inPlaces, zeroF, wordsInPlaces}
 use Rattle.checks.proofs.Within.{one-length}
@@ -16,7 +17,7 @@ use Rattle.phrase_align.specs.PhraseAlign.{alignPhrases, inTheirPlaces}
 use Rattle.phrase_align.specs.Calls.{alignCall}
 use Rattle.phrase_align.specs.declared.Answer.the-variants.{Accepted}
 use Rattle.phrase_align.proofs.Calls.{accepted-answer}
-use Rattle.phrase_align.proofs.Facts.{wordTimes, Placed, placed-after, count-least}
+use Rattle.phrase_align.proofs.Facts.{wordTimes, PlacedWord, placed-after, count-least}
 
 module _ (ws : Words) (spans : Spans) (phrases : List ℕ) (n : ℕ) (says : alignCall ws spans phrases .answer ≡ Accepted n) where
   -- ---- "The new count is given back."
@@ -25,12 +26,8 @@ module _ (ws : Words) (spans : Spans) (phrases : List ℕ) (n : ℕ) (says : ali
       let a = accepted-answer ws spans phrases n says in
       a .1 .0 ∙ count-least ws (one-length (a .0 .words-within)) spans (a .0 .spans-within .counts-as-long)
 
-  -- the first places hold what was placed
-  first-held : {A : Type 0} (xs ys : List A) (d : A) (i : ℕ) → i < length xs → getD (xs ++ ys) i d ≡ getD xs i d
-  first-held xs ys d i h = List·getD-append xs ys d i h
-
   -- ---- each word kept, with its phrase number
-  pub word-placed : (i : ℕ) → i < n → Placed ws (one-length (accepted-answer ws spans phrases n says .0 .words-within)) spans (accepted-answer ws spans phrases n says .0 .spans-within .counts-as-long)
+  pub word-placed : (i : ℕ) → i < n → PlacedWord ws (one-length (accepted-answer ws spans phrases n says .0 .words-within)) spans (accepted-answer ws spans phrases n says .0 .spans-within .counts-as-long)
       (length (spans .starts)) (getD (alignCall ws spans phrases .phrases) i 0) i (wordTimes (alignCall ws spans phrases .words) i)
   unfolding wordsInPlaces inTheirPlaces
   word-placed i h =
@@ -39,13 +36,47 @@ module _ (ws : Words) (spans : Spans) (phrases : List ℕ) (n : ℕ) (says : ali
       let out = alignPhrases ws spans in
       let c : count (out .words) ≡ min (out .k) (count ws) = rw (w .keys) (length-take-le (min (out .k) (count ws)) (ws .keys) (omega arith)) in
       let l : i < min (out .k) (count ws) = omega (arith, a .1 .0) in
-      let s : getD (inPlaces zeroF (count ws) (out .words .starts)) i nan ≡ getD (out .words .starts) i nan = first-held (out .words .starts) _ nan i (omega (arith, w .starts-long)) in
-      let e : getD (inPlaces zeroF (count ws) (out .words .ends)) i nan ≡ getD (out .words .ends) i nan = first-held (out .words .ends) _ nan i (omega (arith, w .ends-long)) in
+      let s : getD (inPlaces zeroF (count ws) (out .words .starts)) i nan ≡ getD (out .words .starts) i nan = List·getD-append (out .words .starts) _ nan i (omega (arith, w .starts-long)) in
+      let e : getD (inPlaces zeroF (count ws) (out .words .ends)) i nan ≡ getD (out .words .ends) i nan = List·getD-append (out .words .ends) _ nan i (omega (arith, w .ends-long)) in
       let p : getD (inPlaces 0 (count ws) (out .phrases) ++ drop (count ws) phrases) i 0 ≡ getD (out .phrases) i 0 =
-      first-held (inPlaces 0 (count ws) (out .phrases)) _ 0 i (rw length-append (omega (arith, w .phrases-long))) ∙ first-held (out .phrases) _ 0 i (omega (arith, w .phrases-long)) in
+      List·getD-append (inPlaces 0 (count ws) (out .phrases)) _ 0 i (rw length-append (omega (arith, w .phrases-long))) ∙ List·getD-append (out .phrases) _ 0 i (omega (arith, w .phrases-long)) in
       rw (a .1 .1, s, e, p) (w .each-word i l)
 
   -- ---- a word inside its span is untouched
   pub untouched : (i : ℕ) → i < n → (let p = getD (alignCall ws spans phrases .phrases) i 0 in inside (getD (spans .starts) p nan) (getD (spans .ends) p nan) (wordTimes ws i) ≡ true)
       → wordTimes (alignCall ws spans phrases .words) i ≡ wordTimes ws i
   untouched i h t = word-placed i h .inside-keeps t
+
+  -- ---- what else the call leaves: letters, units and keys of the words kept stay, the places of the others become zero, and phrase places past the words stay
+  pub record Leaves (ended : Words) (numbers : List ℕ) : Type 0 where
+    pub letters : ended .letters ≡ inPlaces 0 (count ws) (take n (ws .letters))
+    pub units : ended .units ≡ inPlaces 0 (count ws) (take n (ws .units))
+    pub keys : ended .keys ≡ inPlaces 0 (count ws) (take n (ws .keys))
+    pub starts-dropped : drop n (ended .starts) ≡ replicate (count ws - n) zeroF
+    pub ends-dropped : drop n (ended .ends) ≡ replicate (count ws - n) zeroF
+    pub numbers-dropped : drop n numbers ≡ replicate (count ws - n) 0 ++ drop (count ws) phrases
+
+  pub leaves : Leaves (alignCall ws spans phrases .words) (alignCall ws spans phrases .phrases)
+  unfolding wordsInPlaces inTheirPlaces
+  leaves =
+      let a = accepted-answer ws spans phrases n says in
+      let w = placed-after ws (one-length (a .0 .words-within)) spans (a .0 .spans-within .counts-as-long) in
+      let out = alignPhrases ws spans in
+      let c : min (out .k) (count ws) ≡ n = sym (a .1 .0 ∙ rw (w .keys) (length-take-le (min (out .k) (count ws)) (ws .keys) (omega arith))) in
+      let s : length (out .words .starts) ≡ n = w .starts-long ∙ c in
+      let e : length (out .words .ends) ≡ n = w .ends-long ∙ c in
+      let f : length (out .phrases) ≡ n = w .phrases-long ∙ c in
+      rw (a .1 .1)
+      (record {
+        letters = ap (inPlaces 0 (count ws)) (w .letters ∙ ap (λ (k : ℕ). take k (ws .letters)) c);
+        units = ap (inPlaces 0 (count ws)) (w .units ∙ ap (λ (k : ℕ). take k (ws .units)) c);
+        keys = ap (inPlaces 0 (count ws)) (w .keys ∙ ap (λ (k : ℕ). take k (ws .keys)) c);
+        starts-dropped = behind (out .words .starts) zeroF s;
+        ends-dropped = behind (out .words .ends) zeroF e;
+        numbers-dropped =
+            ap (drop n) (append-assoc (out .phrases) (replicate (count ws - length (out .phrases)) 0) (drop (count ws) phrases))
+            ∙ drop-at (out .phrases) (replicate (count ws - length (out .phrases)) 0 ++ drop (count ws) phrases) n f ∙ ap (λ (k : ℕ). replicate (count ws - k) 0 ++ drop (count ws) phrases) f;
+      })
+    where
+      behind : {A : Type 0} (xs : List A) (z : A) → length xs ≡ n → drop n (inPlaces z (count ws) xs) ≡ replicate (count ws - n) z
+      behind xs z l = drop-at xs (replicate (count ws - length xs) z) n l ∙ ap (λ (k : ℕ). replicate (count ws - k) z) l

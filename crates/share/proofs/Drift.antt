@@ -1,20 +1,22 @@
--- How far a share-out drifts: the boundary after j words lies within (j + 8) × 2^-40 s of the exact one, from + room × letters of the first j / letters of all, for any times of
--- at most 8,191 s, whether the room is to - from, of either sign, or max(0, to - from). In whole numbers of the smallest double: a time is `plus` less `minus` of
+-- How far a share-out drifts: the boundary after j words lies within (j + 8) × 2^-40 s of the exact one, from + room × letters of the first j / letters of all, for any two doubles below
+-- 2^13 s in size, at most 4,096 words and from 1 to below 2^53 letters in all, whether the room is to - from, of either sign, or max(0, to - from). In whole numbers of the smallest double: a time is `plus` less `minus` of
 -- them, a second is 2^1074 and 2^-40 s are 2^1034, and both sides are times the letters of all. Assumes nothing.
-use mathlib.Core.Path.{_≡_, refl, sym, subst₂}
+use mathlib.Core.Path.{_≡_, refl, sym, ap, subst₂}
 use mathlib.Core.List.{List}
 use Prim.Native.Nat.{ℕ, zero, suc, _+_, _-_, _*_, _^_, _≤_, _<_}
-use native.Mathlib.Nat.{le-trans, le-of-eq, mul-le-mul-right, le-of-mul-le-mul-right}
+use native.Mathlib.Nat.{le-trans, le-of-eq, lt-of-lt-of-le, mul-le-mul-right, mul-right-comm, mul-lt-mul-of-pos-right, lt-of-mul-lt-mul-right}
 use native.Mathlib.Omega.{arith}
-use lib.Dec.{T, lit<, lit≤}
+use mathlib.Core.Bool.{Bool, true, false}
+use borrow.Author.Tests.{ltb-true, ltb-false}
+use lib.Dec.{T, ltb, lit<, lit≤}
+use lib.Pow.{pow-pos}
 use lib.ListN.{length, take, getD}
 use lib.Ieee.{Float, nan, inf, fin, binary64, up, down, fits}
-use lib.Ieee.Fits.{down-pos}
 use lib.Ieee.Scale.{finite}
 use Rattle.base.specs.Floats.{_⊖_, num}
 use Rattle.base.specs.Words.{zeroF}
-use Rattle.base.proofs.Most.{Most}
-use Rattle.js.specs.Js.{negative, jsMax}
+use Rattle.base.proofs.Units.{gap}
+use Rattle.js.specs.Js.{jsMax}
 use Rattle.share.specs.Share.{sum, boundary}
 use Rattle.share.proofs.Sums.{sum-nil, sum-take, sum-take-most}
 use Rattle.share.proofs.Parts.{amount, plus, minus, Counted, counted-fits}
@@ -41,23 +43,53 @@ module _ (k : ℕ) (K : 0 < k) (letters : List ℕ) (few : length letters ≤ 40
 abbrev pub second : ℕ
 second = 2 ^ 1074
 
--- ---- a double of at most 8,191 s in size
+-- ---- a finite number below n in size
+abbrev Below : ℕ → Float → Type 0
+Below n nan = ⊥
+Below n (inf s) = ⊥
+Below n (fin s m e) = m * up e < n * down e
+
+-- ---- a double below 2^13 s in size
 pub record Time (x : Float) : Type 0 where
   pub double : T (fits binary64 x)
-  pub near : Most (negative x) 8191 1 x
+  pub near : Below (2 ^ 13) x
 
-most-finite : (n : ℕ) (x : Float) → Most (negative x) n 1 x → T (finite x)
-most-finite n nan h = h
-most-finite n (inf s) h = h
-most-finite n (fin s m e) h = tt
+below-finite : (n : ℕ) (x : Float) → Below n x → T (finite x)
+below-finite n nan h = h
+below-finite n (inf s) h = h
+below-finite n (fin s m e) h = tt
 
-most-amount : (L n : ℕ) (x : Float) → Counted L x → Most (negative x) n 1 x → amount L x ≤ n * L
-most-amount L n nan v h = absurd h
-most-amount L n (inf s) v h = absurd h
-most-amount L n (fin s m e) v h = cut (m * up e) (down e) (amount L (fin s m e)) (down-pos e) (v .1) (mul-le-mul-right L (h .1))
+-- a double below 2^13 s is a step of 2^-40 s below it, or more: from 2^12 s on doubles lie a step apart
+counts-below : (n X D a L : ℕ) → 0 < L → X * L ≡ a * D → X < n * D → a < n * L
+counts-below n X D a L Q e l = lt-of-mul-lt-mul-right D (le-trans (le-of-eq (ap suc (sym e))) (le-trans (mul-lt-mul-of-pos-right l Q) (le-of-eq (mul-right-comm n D L))))
+
+on-a-step : (E a c : ℕ) → a ≡ c * E → a < 2 ^ 53 * E → a ≤ farthest * E
+on-a-step E a c e l =
+    let m : c < 2 ^ 53 = lt-of-mul-lt-mul-right E (le-trans (le-of-eq (ap suc (sym e))) l) in le-trans (le-of-eq e) (mul-le-mul-right E (omega arith))
+
+near-zero : (E a : ℕ) → a < 2 ^ 52 * E → a ≤ farthest * E
+near-zero E a l = omega arith
+
+below-steps : (x : Float) → T (fits binary64 x) → Below (2 ^ 13) x → Counted second x → amount second x ≤ farthest * (2 ^ 1034 * 1)
+below-steps nan g h v = absurd h
+below-steps (inf s) g h v = absurd h
+below-steps (fin s m e) g h v = go (ltb a (2 ^ 52 * 2 ^ 1034)) refl
   where
-    cut : (X E a : ℕ) → 0 < E → X * L ≡ a * E → X * 1 * L ≤ n * E * L → a ≤ n * L
-    cut X E a p e l = le-of-mul-le-mul-right {k = E} (omega arith) p
+    a : ℕ
+    a = amount second (fin s m e)
+
+    plain : (s : Bool) → T (fits binary64 (fin s m e)) → T (fits binary64 (fin false m e))
+    plain true f = unfold fits in f
+    plain false f = f
+
+    below : a < 2 ^ 53 * 2 ^ 1034
+    below = lt-of-lt-of-le (counts-below (2 ^ 13) (m * up e) (down e) a second (pow-pos 1074) (v .1) h) (lit≤ tt)
+
+    go : (t : Bool) → ltb a (2 ^ 52 * 2 ^ 1034) ≡ t → a ≤ farthest * (2 ^ 1034 * 1)
+    go true t = near-zero (2 ^ 1034) a (ltb-true a (2 ^ 52 * 2 ^ 1034) t)
+    go false t =
+        let c = gap binary64 (fin false m e) a 1034 (plain s g) (refl, v .1) (ltb-false a (2 ^ 52 * 2 ^ 1034) t) in
+        on-a-step (2 ^ 1034) a (c .0) (c .1) below
 
 -- ---- t is finite, and within (j + 8) × 2^-40 s of from + (gp - gn) × part / all
 pub record Drifts (from : Float) (gp gn part all j : ℕ) (t : Float) : Type 0 where
@@ -65,7 +97,7 @@ pub record Drifts (from : Float) (gp gn part all j : ℕ) (t : Float) : Type 0 w
   pub above : all * (plus second t + minus second from) + part * gn ≤ all * (minus second t + plus second from) + part * gp + all * ((j + 8) * 2 ^ 1034)
   pub below : all * (minus second t + plus second from) + part * gp ≤ all * (plus second t + minus second from) + part * gn + all * ((j + 8) * 2 ^ 1034)
 
--- ---- 8,191 s
+-- ---- a step below 2^13 s
 abbrev H : ℕ
 H = farthest * (2 ^ 1034 * 1)
 
@@ -83,17 +115,16 @@ module _ (letters : List ℕ) (from to : Float) (a : Time from) (b : Time to) (s
 
   in-range : (x : Float) → Time x → Ranged (second * 1) H x
   in-range x t =
-      let v = counted-fits binary64 x (most-finite 8191 x (t .near)) (t .double) in
-      ranged (second * 1) H x v (le-trans (most-amount second 8191 x v (t .near)) (lit≤ tt))
+      let v = counted-fits binary64 x (below-finite (2 ^ 13) x (t .near)) (t .double) in ranged (second * 1) H x v (below-steps x (t .double) (t .near) v)
 
   -- room = to - from
   pub drift : Drifts from (plus second to + minus second from) (minus second to + plus second from) (sum (take j letters)) (sum letters) j (boundary letters (to ⊖ from) (num (sum letters)) from j)
   drift =
       drifts (to ⊖ from) (plus second to + minus second from) (minus second to + plus second from)
-      (difference-fair binary64 1034 1 (lit< tt) doubles (sum letters) some small H (lit≤ tt) from to (in-range from a) (in-range to b))
+      (difference-fair binary64 1034 1 (lit< tt) doubles (sum letters) some small H (lit< tt) from to (in-range from a) (in-range to b))
 
   -- room = max(0, to - from): the difference of natural numbers is 0 where it would be negative
   pub drift-forward : Drifts from (plus second to + minus second from - (minus second to + plus second from)) 0 (sum (take j letters)) (sum letters) j (boundary letters (jsMax zeroF (to ⊖ from)) (num (sum letters)) from j)
   drift-forward =
       drifts (jsMax zeroF (to ⊖ from)) (plus second to + minus second from - (minus second to + plus second from)) 0
-      (gap-fair binary64 1034 1 (lit< tt) doubles (sum letters) some small H (lit≤ tt) from to (in-range from a) (in-range to b))
+      (gap-fair binary64 1034 1 (lit< tt) doubles (sum letters) some small H (lit< tt) from to (in-range from a) (in-range to b))

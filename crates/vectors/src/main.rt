@@ -17,21 +17,34 @@
 //     E snap_ends: R is the new end of a word from A to 0.64 s; the duration is 0.64 s
 //     D hand_back_tails: R is the new start of the second of two words of 4 letters each, from 0 to
 //       0.1 s and from A to 0.64 s
-//     X toFixed, Y frame_at and W snap_onsets, one row each, with an answer that is one step off on
-//       purpose, so that the output shows that a wrong answer is seen
+//     V even_out: B is the limit, R is the time that A asks for
+//     G align_phrases: B has the number of spans, at most 5, then the start, end and count of each,
+//       a digit each, and zeros after them; R is the time that A asks for, or what is kept
+//     X toFixed, Y frame_at, W snap_onsets and U even_out, one row each, with an answer that is one
+//       step off on purpose, so that the output shows that a wrong answer is seen
 //
 // O, E, D and W have a recording of 64 frames: frame k is loud where bit k of B is one, from the
 // lowest on.
+//
+// V, G and U have words in the digits of A, from the highest on: their number, from 1 to 7, then
+// what is asked for, then the start and the end of each, and zeros after them. A digit d of a word
+// or a span is d / 20 s in V and U and d / 50 s in G; F is -0. The words have 1, 2, 1, 2 and so on
+// letters, 1 unit and the key 1. Where p is asked for, R is the start of word p / 2, from 0 on, or
+// its end if p is odd. In G p may be E: then R has the number of words kept and the phrase number
+// of each place, a digit each, and zeros after them; there are as many places as words, and each
+// had a 9. A row is wrong where the call refuses it, or where p, the number of words or that of
+// spans is out of range.
 ghost use mathlib.Core.Path.{_≡_};
 ghost use Prim.Native.Nat.{_+_, _≤_};
 ghost use lib.Ieee.{binary64, nanBits};
+ghost use lib.ListN.{length};
 use libc::STDIN_FILENO;
 use libc::STDOUT_FILENO;
 
 // The places of a tally: one for each kind of row, and the last for what is no row.
-const PLACES: usize = 17;
+const PLACES: usize = 20;
 
-const UNREADABLE: usize = 16;
+const UNREADABLE: usize = 19;
 
 // The most frames of a row of pieces.
 const FRAMES: usize = 2048;
@@ -51,6 +64,24 @@ const DURATION: f64 = 0.64;
 // The most words of a row of keys.
 const WORDS: usize = 16;
 
+// The most words of a row of times in digits.
+const TIMED: usize = 7;
+
+// The most spans of such a row.
+const SPANS: usize = 5;
+
+// What a row of placing asks for, where it is no time.
+const KEPT: usize = 14;
+
+// The digit of -0.
+const MINUS_ZERO: u32 = 15;
+
+// A digit is one of so many parts of a second in a row of evening.
+const EVENING: f64 = 20.0;
+
+// The same in a row of placing.
+const PLACING: f64 = 50.0;
+
 // The place of a kind in a tally.
 fn place(kind: u8) -> usize {
     match kind {
@@ -65,11 +96,14 @@ fn place(kind: u8) -> usize {
         b'X' => 8,
         b'Y' => 9,
         b'W' => 10,
-        b'P' => 11,
-        b'K' => 12,
-        b'O' => 13,
-        b'E' => 14,
-        b'D' => 15,
+        b'U' => 11,
+        b'P' => 12,
+        b'K' => 13,
+        b'O' => 14,
+        b'E' => 15,
+        b'D' => 16,
+        b'V' => 17,
+        b'G' => 18,
         _ => UNREADABLE,
     }
 }
@@ -358,6 +392,181 @@ fn is_moved(kind: u8, start: f64, loud: u64, r: u64) -> bool {
     }
 }
 
+// The time of a digit, so many of which are a second.
+fn time(digit: u32, parts: f64) -> f64 {
+    if digit == MINUS_ZERO {
+        return -0.0;
+    }
+    (digit as f64) / parts
+}
+
+// Reads times from the digit `first` on, each `step` digits after the one before.
+fn set_times(times: &mut [f64], digits: &[u32; 16], first: usize, step: usize, parts: f64)
+    requires { ⌜ step ≤ 3 ⌝ }
+{
+    let mut at = first;
+    let mut i = 0;
+    while i < times.len() {
+        if at >= 16 {
+            return;
+        }
+        times[i] = time(digits[at], parts);
+        at += step;
+        i += 1;
+    }
+}
+
+// Reads the number of words of each span.
+fn set_counts(counts: &mut [u32], digits: &[u32; 16])
+    requires { ⌜ length (now counts) ≤ 5 ⌝ }
+{
+    let mut i = 0;
+    while i < counts.len() {
+        counts[i] = digits[3 + 3 * i];
+        i += 1;
+    }
+}
+
+// Whether r is the time that is asked for: a start where `asked` is even, an end where it is odd.
+fn is_time(starts: &[f64], ends: &[f64], asked: usize, r: u64) -> bool {
+    let word = asked / 2;
+    if asked % 2 == 0 {
+        if word < starts.len() {
+            return same(starts[word], r);
+        }
+        return false;
+    }
+    if word < ends.len() {
+        return same(ends[word], r);
+    }
+    false
+}
+
+// Whether r has the number of words kept, and the phrase number of each of so many places.
+fn is_kept(phrases: &[u32; 7], places: usize, kept: usize, r: u64) -> bool
+    requires { ⌜ places ≤ 7 ⌝ }
+{
+    if kept > places {
+        return false;
+    }
+    let mut told = [0u32; 16];
+    told[0] = kept as u32;
+    let mut i = 0;
+    while i < places {
+        told[i + 1] = phrases[i];
+        i += 1;
+    }
+    digits_of(&told) == r
+}
+
+// Whether r is the time that is asked for, of words that are evened.
+fn is_evened(starts: &mut [f64], ends: &mut [f64], limit: f64, asked: usize, r: u64) -> bool
+    requires { ⌜ length (now starts) ≤ 7 ⌝ }
+{
+    let n = starts.len();
+    let letters = [1u32, 2, 1, 2, 1, 2, 1];
+    let units = [1u32; 7];
+    let keys = [1u32; 7];
+    let answer = even::even_out(starts, ends, &letters[..n], &units[..n], &keys[..n], limit);
+    match answer {
+        checks::Answer::Accepted => is_time(starts, ends, asked, r),
+        checks::Answer::Refused(_) => false,
+    }
+}
+
+// Whether r is what is asked for, of words that are placed in these spans.
+fn is_aligned(
+    starts: &mut [f64],
+    ends: &mut [f64],
+    span_starts: &[f64],
+    span_ends: &[f64],
+    counts: &[u32],
+    asked: usize,
+    r: u64,
+) -> bool
+    requires { ⌜ length (now starts) ≤ 7 ⌝ }
+{
+    let n = starts.len();
+    let mut letters = [1u32, 2, 1, 2, 1, 2, 1];
+    let mut units = [1u32; 7];
+    let mut keys = [1u32; 7];
+    let mut phrases = [9u32; 7];
+    let answer = phrase_align::align_phrases(
+        starts,
+        ends,
+        &mut letters[..n],
+        &mut units[..n],
+        &mut keys[..n],
+        span_starts,
+        span_ends,
+        counts,
+        &mut phrases[..n],
+    );
+    match answer {
+        phrase_align::Answer::Accepted(kept) => {
+            if asked == KEPT {
+                return is_kept(&phrases, n, kept, r);
+            }
+            is_time(starts, ends, asked, r)
+        }
+        phrase_align::Answer::Refused(_) => false,
+    }
+}
+
+// Whether r is what is asked for, of words that are placed in the spans of these digits.
+fn is_placed(starts: &mut [f64], ends: &mut [f64], b: u64, asked: usize, r: u64) -> bool
+    requires { ⌜ length (now starts) ≤ 7 ⌝ }
+{
+    let mut digits = [0u32; 16];
+    set_keys(&mut digits, b);
+    let spans = wide(digits[0]) as usize;
+    if spans > SPANS {
+        return false;
+    }
+    let mut span_starts = [0.0; 5];
+    let mut span_ends = [0.0; 5];
+    let mut counts = [0u32; 5];
+    set_times(&mut span_starts, &digits, 1, 3, PLACING);
+    set_times(&mut span_ends, &digits, 2, 3, PLACING);
+    set_counts(&mut counts, &digits);
+    is_aligned(
+        starts,
+        ends,
+        &span_starts[..spans],
+        &span_ends[..spans],
+        &counts[..spans],
+        asked,
+        r,
+    )
+}
+
+// How many digits are a second, for each kind of row with times in digits.
+fn parts(kind: u8) -> f64 {
+    match kind {
+        b'G' => PLACING,
+        _ => EVENING,
+    }
+}
+
+// Whether r is what is asked for, for each kind of row with times in digits.
+fn is_timed(kind: u8, a: u64, b: u64, r: u64) -> bool {
+    let mut digits = [0u32; 16];
+    set_keys(&mut digits, a);
+    let n = wide(digits[0]) as usize;
+    if n > TIMED || n == 0 {
+        return false;
+    }
+    let asked = wide(digits[1]) as usize;
+    let mut starts = [0.0; 7];
+    let mut ends = [0.0; 7];
+    set_times(&mut starts, &digits, 2, 2, parts(kind));
+    set_times(&mut ends, &digits, 3, 2, parts(kind));
+    match kind {
+        b'G' => is_placed(&mut starts[..n], &mut ends[..n], b, asked, r),
+        _ => is_evened(&mut starts[..n], &mut ends[..n], float(b), asked, r),
+    }
+}
+
 // Whether r is the answer for a and b, for each kind of row.
 fn is_right(kind: u8, a: u64, b: u64, r: u64) -> bool {
     match kind {
@@ -372,12 +581,13 @@ fn is_right(kind: u8, a: u64, b: u64, r: u64) -> bool {
         b'P' => is_cut(a, b, r),
         b'K' => is_collapsed(a, b as usize, r),
         b'O' | b'E' | b'D' | b'W' => is_moved(kind, float(a), b, r),
+        b'V' | b'G' | b'U' => is_timed(kind, a, b, r),
         _ => false,
     }
 }
 
 // Adds one at a place of a tally.
-fn add(tally: &mut [u64; 17], at: usize) {
+fn add(tally: &mut [u64; 20], at: usize) {
     if at < PLACES {
         if tally[at] < u64::MAX {
             tally[at] += 1;
@@ -393,7 +603,7 @@ fn is_spaced(row: &[u8; 53]) -> bool {
 // Whether a kind has a second input.
 fn has_second(kind: u8) -> bool {
     match kind {
-        b'L' | b'H' | b'P' | b'K' | b'O' | b'E' | b'D' | b'W' => true,
+        b'L' | b'H' | b'P' | b'K' | b'O' | b'E' | b'D' | b'W' | b'V' | b'G' | b'U' => true,
         _ => false,
     }
 }
@@ -407,7 +617,7 @@ fn second(row: &[u8; 53]) -> Digits {
 }
 
 // Counts a row, and counts it as wrong where its answer is.
-fn judge(row: &[u8; 53], compared: &mut [u64; 17], wrong: &mut [u64; 17]) {
+fn judge(row: &[u8; 53], compared: &mut [u64; 20], wrong: &mut [u64; 20]) {
     let a = number(row, 2);
     let b = second(row);
     let r = number(row, 36);
@@ -422,7 +632,7 @@ fn judge(row: &[u8; 53], compared: &mut [u64; 17], wrong: &mut [u64; 17]) {
 }
 
 // Reads one row and judges it; answers whether to go on.
-fn take_row(compared: &mut [u64; 17], wrong: &mut [u64; 17]) -> bool {
+fn take_row(compared: &mut [u64; 20], wrong: &mut [u64; 20]) -> bool {
     let mut row = [0u8; 53];
     let n = io::read_full(STDIN_FILENO, &mut row);
     if n == 0 {
@@ -438,7 +648,7 @@ fn take_row(compared: &mut [u64; 17], wrong: &mut [u64; 17]) -> bool {
 
 // Judges every row. A proved loop has to end, and nothing says that the input does, so it counts
 // its turns down from a number that no run uses up.
-fn take_all(compared: &mut [u64; 17], wrong: &mut [u64; 17]) {
+fn take_all(compared: &mut [u64; 20], wrong: &mut [u64; 20]) {
     let mut turns = u64::MAX;
     while turns > 0 && take_row(compared, wrong) {
         turns -= 1;
@@ -455,7 +665,7 @@ fn print_line(name: &[u8], compared: u64, wrong: u64) {
 }
 
 // Writes the lines of numbers.
-fn print_numbers(compared: &[u64; 17], wrong: &[u64; 17]) {
+fn print_numbers(compared: &[u64; 20], wrong: &[u64; 20]) {
     print_line(b"toFixed ", compared[0], wrong[0]);
     print_line(b"min ", compared[1], wrong[1]);
     print_line(b"max ", compared[2], wrong[2]);
@@ -463,7 +673,7 @@ fn print_numbers(compared: &[u64; 17], wrong: &[u64; 17]) {
 }
 
 // Writes the lines of frames.
-fn print_frames(compared: &[u64; 17], wrong: &[u64; 17]) {
+fn print_frames(compared: &[u64; 20], wrong: &[u64; 20]) {
     print_line(b"frame at ", compared[4], wrong[4]);
     print_line(b"frame ceil ", compared[5], wrong[5]);
     print_line(b"frame from zero ", compared[6], wrong[6]);
@@ -471,24 +681,27 @@ fn print_frames(compared: &[u64; 17], wrong: &[u64; 17]) {
 }
 
 // Writes the lines of the rows whose answer is wrong on purpose.
-fn print_planted(compared: &[u64; 17], wrong: &[u64; 17]) {
+fn print_planted(compared: &[u64; 20], wrong: &[u64; 20]) {
     print_line(b"planted toFixed ", compared[8], wrong[8]);
     print_line(b"planted frame ", compared[9], wrong[9]);
     print_line(b"planted onset ", compared[10], wrong[10]);
+    print_line(b"planted evening ", compared[11], wrong[11]);
 }
 
 // Writes the lines of pieces and words.
-fn print_words(compared: &[u64; 17], wrong: &[u64; 17]) {
-    print_line(b"pieces ", compared[11], wrong[11]);
-    print_line(b"loops ", compared[12], wrong[12]);
-    print_line(b"onsets ", compared[13], wrong[13]);
-    print_line(b"ends ", compared[14], wrong[14]);
-    print_line(b"tails ", compared[15], wrong[15]);
+fn print_words(compared: &[u64; 20], wrong: &[u64; 20]) {
+    print_line(b"pieces ", compared[12], wrong[12]);
+    print_line(b"loops ", compared[13], wrong[13]);
+    print_line(b"onsets ", compared[14], wrong[14]);
+    print_line(b"ends ", compared[15], wrong[15]);
+    print_line(b"tails ", compared[16], wrong[16]);
+    print_line(b"evening ", compared[17], wrong[17]);
+    print_line(b"placing ", compared[18], wrong[18]);
 }
 
 fn main() {
-    let mut compared = [0u64; 17];
-    let mut wrong = [0u64; 17];
+    let mut compared = [0u64; 20];
+    let mut wrong = [0u64; 20];
     take_all(&mut compared, &mut wrong);
     print_numbers(&compared, &wrong);
     print_frames(&compared, &wrong);
