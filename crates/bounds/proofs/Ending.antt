@@ -30,7 +30,7 @@ use Rattle.js.specs.Js.{jsMin, jsMax, nearestUp, jsToFixed}
 use Rattle.js.proofs.ToFixed.{nearestUp-bounds}
 use Rattle.frames.specs.Frames.{frameAt, frameSeconds}
 use Rattle.envelope.specs.Levels.{loud}
-use Rattle.checks.proofs.Within.{AllFrom}
+use Rattle.calls.proofs.Within.{AllFrom}
 use Rattle.ends.specs.Ends.{noLength, pairSpan, nextStart, isPair, findTurn, pairStart, pairEdge, pairOf, Last, lastTurn, lastLoud, soundEnd, reach, orDuration, trimmed, endOf, endTurn, snapEnds, setPair}
 use Rattle.ends.proofs.Turns.{pair-in}
 use Rattle.bounds.specs.Bounds.{Under, EdgesUnder}

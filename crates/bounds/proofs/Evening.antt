@@ -18,7 +18,7 @@ use Rattle.base.proofs.Loops.{each-holds, down-le, up-ge, up-le}
 use Rattle.base.proofs.Parts.{long, onPart-long}
 use Rattle.base.proofs.Values.{fraction, whole-int, mul-fraction}
 use Rattle.js.specs.Js.{under, jsMin, jsMax}
-use Rattle.checks.proofs.Within.{AllFrom}
+use Rattle.calls.proofs.Within.{AllFrom}
 use Rattle.share.specs.Share as shares
 use Rattle.share.proofs.Sums.{sum-between}
 use Rattle.share.proofs.Long.{share-long}

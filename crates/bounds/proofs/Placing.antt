@@ -18,11 +18,11 @@ use Rattle.base.specs.declared.Times.{Times}
 use Rattle.base.proofs.Loops.{each-holds, each-done, down-le, down-seen, up-le, up-found}
 use Rattle.base.proofs.Parts.{long, onPart-after}
 use Rattle.js.specs.Js.{jsMax}
-use Rattle.checks.proofs.Within.{AllFrom}
+use Rattle.calls.proofs.Within.{AllFrom}
 use Rattle.share.proofs.Steps.{farthest}
-use Rattle.phrase_align.specs.Spread.{spread, inside, outsideAt, firstInside, lastInside, spreadBefore, spreadAfter, betweenTurn, placeBetween, placeGroup}
+use Rattle.spread.specs.Spread.{spread, inside, outsideAt, firstInside, lastInside, spreadBefore, spreadAfter, betweenTurn, placeBetween, placeGroup}
 use Rattle.phrase_align.specs.PhraseAlign.{Placing, groupOf, extend, placedIn, placeTurn, alignPhrases}
-use Rattle.phrase_align.proofs.Long.{spread-long, before-long, after-long}
+use Rattle.spread.proofs.Long.{spread-long, before-long, after-long}
 use Rattle.bounds.specs.Bounds.{UnderIn, EdgesUnderIn}
 use Rattle.bounds.proofs.Rounding.{max-under}
 use Rattle.bounds.proofs.Stored.{AllUnder, set-under}

@@ -15,8 +15,8 @@ use lib.Ieee.{Float, nan, inf, fin, up, down, lt, le, eq, ofBits}
 use lib.Ieee.Fits.{down-pos}
 use Rattle.base.specs.Words.{Words, Spans, Edges, edges, withEdges, count, inPlaces, zeroF, wordsInPlaces}
 use Rattle.checks.specs.declared.Answer.the-variants.{Accepted}
-use Rattle.checks.proofs.Within.{Within, LimitWithin, WordsWithin}
-use Rattle.checks.proofs.Moved.{SoundWithin}
+use Rattle.calls.proofs.Within.{Within, LimitWithin, WordsWithin}
+use Rattle.calls.proofs.Moved.{SoundWithin}
 use Rattle.envelope.specs.Levels.{loudRow}
 use Rattle.envelope.proofs.Scan.{length-row}
 use Rattle.loops.specs.Loops.{collapseLoops}

@@ -7,7 +7,7 @@ use Rattle.phrase_align.specs.Calls as phrases
 use Rattle.phrase_align.specs.declared.Answer.{Answer as Placed}
 use Rattle.loops.specs.Calls as loops
 use Rattle.loops.specs.declared.Answer.{Answer as Collapsed}
-use Rattle.checks.specs.Calls.{Output, output}
+use Rattle.calls.specs.Calls.{Output, output}
 use Rattle.checks.specs.declared.Answer.{Answer}
 use Rattle.c_api.specs.Answers.{leftOf, leaves, leavesOf, movedOf, reply, replyOf, placedOf, placement, placementOf}
 use Rattle.c_api.specs.declared.QiluvraitLeft.{QiluvraitLeft}

@@ -11,7 +11,7 @@ use Rattle.loops.specs.declared.Answer.the-variants as collapsed
 use Rattle.phrase_align.specs.Calls as phrases
 use Rattle.phrase_align.specs.declared.Answer.{Answer as Placed}
 use Rattle.phrase_align.specs.declared.Answer.the-variants as placed
-use Rattle.checks.specs.Calls as calls
+use Rattle.calls.specs.Calls as calls
 use Rattle.checks.specs.declared.Answer.{Answer as Moved}
 use Rattle.checks.specs.declared.Answer.the-variants as moved
 use Rattle.envelope.specs.declared.Answer.{Answer}

@@ -16,7 +16,7 @@ use Rattle.pieces.specs.Pieces.{cut, searched, searchTurn}
 use Rattle.loops.specs.Loops.{equal, same, copiesEnd, isLoop, loopTurn, pass, collapseLoops}
 use Rattle.ends.specs.Ends.{nextStart, isPair, pairStart, pairEdge, pairOf, lastLoud, soundEnd, reach, orDuration, trimmed, endOf, setPair, endTurn, snapEnds}
 use Rattle.share.specs.Share as shares
-use Rattle.phrase_align.specs.Spread as phrases
+use Rattle.spread.specs.Spread as phrases
 use Rattle.even.specs.Even as even
 use Rattle.cases.specs.Table.{Table, Sentences, double, quietFrames, keysLeft}
 

@@ -12,7 +12,7 @@ use Rattle.envelope.specs.Levels.{hop, level, quietRow}
 use Rattle.pieces.specs.Pieces.{cut}
 use Rattle.loops.specs.Loops.{collapseLoops}
 use Rattle.ends.specs.Ends.{snapEnds}
-use Rattle.phrase_align.specs.Spread.{placeGroup}
+use Rattle.spread.specs.Spread.{placeGroup}
 use Rattle.even.specs.Even.{evenOut}
 
 -- ---- The double that a decimal number stands for: the nearest to n / d, with a sign.

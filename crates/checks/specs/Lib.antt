@@ -1,5 +1,4 @@
 -- The limits of document 01, the tests behind its refusals, and their order.
 pub mod Limits
 pub mod Order
-pub mod Calls
 pub mod Parts

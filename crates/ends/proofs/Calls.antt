@@ -11,10 +11,10 @@ use Rattle.base.specs.declared.Rule.{Rule}
 use Rattle.base.specs.declared.Rule.the-variants.{Fine, Breaks}
 use Rattle.base.proofs.First.{First}
 use Rattle.checks.specs.Order.{inOrder}
-use Rattle.checks.specs.Calls.{timedRule, output}
+use Rattle.calls.specs.Calls.{timedRule, output}
 use Rattle.checks.specs.declared.Answer.the-variants.{Accepted, Refused}
-use Rattle.checks.proofs.Within.{Within}
-use Rattle.checks.proofs.Moved as moves
+use Rattle.calls.proofs.Within.{Within}
+use Rattle.calls.proofs.Moved as moves
 use Rattle.envelope.specs.Levels.{loudRow}
 use Rattle.ends.specs.Ends.{snapEnds, endsCall}
 

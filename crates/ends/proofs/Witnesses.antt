@@ -16,7 +16,7 @@ use Rattle.frames.specs.Frames.{floorI64, frameAt, frameSeconds}
 use Rattle.envelope.specs.Levels.{loudRow}
 use Rattle.checks.specs.Limits.{any, timeOf}
 use Rattle.checks.specs.Order.{inOrder, chain}
-use Rattle.checks.specs.Calls.{uneven, ofWords, withLevels, withTime, timedRule, output}
+use Rattle.calls.specs.Calls.{uneven, ofWords, withLevels, withTime, timedRule, output}
 use Rattle.checks.specs.declared.Answer.the-variants.{Accepted, Refused}
 use Rattle.ends.specs.Ends.{nextStart, isPair, pairStart, pairEdge, pairOf, lastLoud, soundEnd, reach, orDuration, trimmed, endOf, setPair, endTurn, snapEnds, endsCall}
 

@@ -19,7 +19,7 @@ use Rattle.base.specs.declared.SoundEnd.the-variants.{Ends, NoSound}
 use Rattle.js.specs.Js.{jsMin, jsMax, jsToFixed}
 use Rattle.frames.specs.Frames.{frameAt, frameSeconds}
 use Rattle.envelope.specs.Levels.{loud, loudRow}
-use Rattle.checks.specs.Calls.{timedRule, Output, moved}
+use Rattle.calls.specs.Calls.{timedRule, Output, moved}
 
 -- ---- NO_LENGTH, 0.06 s: a shorter word is too short to be one.
 abbrev pub noLength : Float

@@ -5,7 +5,7 @@ ghost use lib.IntN.{pos, sucℤ, predℤ};
 ghost use lib.ListN.{length};
 ghost use Rattle.base.specs.Words.{words, edges};
 ghost use Rattle.envelope.specs.Levels.{loudRow};
-ghost use Rattle.checks.specs.Calls.{output};
+ghost use Rattle.calls.specs.Calls.{output};
 ghost use Rattle.ends.specs.Ends.{nextStart, soon as soonOf, isPair, pairStart, pairEdge, pairOf, lastLoud, soundEnd, reach as reachOf, orDuration, trimmed, endOf, endTurn, snapEnds, endsCall, setPair};
 ghost use Rattle.ends.specs.Parts.{isLoose, soundOn};
 ghost use Rattle.base.specs.declared.SoundEnd.the-variants.{Ends};
@@ -265,7 +265,7 @@ pub fn snap_ends(
 ) -> Answer
     ensures { λ r. ⌜ output r (words (now (starts .exit)) (now (ends .exit)) (now (letters .entry)) (now (units .entry)) (now (keys .entry))) ≡ endsCall (words (now (starts .entry)) (now (ends .entry)) (now (letters .entry)) (now (units .entry)) (now (keys .entry))) (now (levels .entry)) floor count duration ⌝ }
 {
-    let rule = checks::timed_rule(
+    let rule = calls::timed_rule(
         starts,
         ends,
         letters,

@@ -9,10 +9,10 @@ use Rattle.base.specs.declared.Rule.{Rule}
 use Rattle.base.specs.declared.Rule.the-variants.{Fine, Breaks}
 use Rattle.base.proofs.First.{First}
 use Rattle.checks.specs.Order.{inOrder}
-use Rattle.checks.specs.Calls.{limitRule, output}
+use Rattle.calls.specs.Calls.{limitRule, output}
 use Rattle.checks.specs.declared.Answer.the-variants.{Accepted, Refused}
-use Rattle.checks.proofs.Within.{WordsWithin, LimitWithin}
-use Rattle.checks.proofs.Moved as moves
+use Rattle.calls.proofs.Within.{WordsWithin, LimitWithin}
+use Rattle.calls.proofs.Moved as moves
 use Rattle.even.specs.Even.{evenOut}
 use Rattle.even.specs.Calls.{evenCall}
 

@@ -12,7 +12,7 @@ use Rattle.base.specs.Words.{Words, Edges, edges, withEdges}
 use Rattle.base.specs.declared.Rule.{Rule}
 use Rattle.base.specs.declared.Rule.the-variants.{Fine, Breaks}
 use Rattle.base.proofs.Loops.{each-holds}
-use Rattle.checks.specs.Calls.{limitRule, moved}
+use Rattle.calls.specs.Calls.{limitRule, moved}
 use Rattle.even.specs.Calls.{evenCall}
 use Rattle.even.specs.Even.{crushed, evenOut, Evening, evenTurn}
 use Rattle.even.proofs.Runs.{turn-long}

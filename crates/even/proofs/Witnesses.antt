@@ -14,7 +14,7 @@ use Rattle.base.specs.declared.Refusal.the-variants.{Time, Letters, Lengths, Co
 use Rattle.js.specs.Js.{under, jsMin, jsMax}
 use Rattle.checks.specs.Limits.{any, timeOf, limitOf}
 use Rattle.checks.specs.Order.{inOrder, chain}
-use Rattle.checks.specs.Calls.{uneven, ofWords, withLimit, limitRule, output}
+use Rattle.calls.specs.Calls.{uneven, ofWords, withLimit, limitRule, output}
 use Rattle.checks.specs.declared.Answer.the-variants.{Accepted, Refused}
 use Rattle.share.specs.Share as shares
 use Rattle.even.specs.Even as even

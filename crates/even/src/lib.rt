@@ -8,7 +8,7 @@ ghost use lib.ListN.{length};
 ghost use lib.Ieee.{Float, lt};
 ghost use Rattle.base.specs.Floats.{_⊗_};
 ghost use Rattle.base.specs.Words.{words, edges};
-ghost use Rattle.checks.specs.Calls.{output};
+ghost use Rattle.calls.specs.Calls.{output};
 ghost use Rattle.even.specs.Even.{minLetter, maxSpan, sum as sumOf, crushed, swollen, firstCrushed, withSwollen, lastCrushed, grown as grownTo, ceilingOf, borrowed as borrowedTo, endOf, stretchOf, evenRun, evenTurn, evenOut};
 ghost use Rattle.even.specs.Calls.{evenCall};
 use base::Rule;
@@ -236,7 +236,7 @@ pub fn even_out(
 ) -> Answer
     ensures { λ r. ⌜ output r (words (now (starts .exit)) (now (ends .exit)) (now (letters .entry)) (now (units .entry)) (now (keys .entry))) ≡ evenCall (words (now (starts .entry)) (now (ends .entry)) (now (letters .entry)) (now (units .entry)) (now (keys .entry))) limit ⌝ }
 {
-    let rule = checks::limit_rule(starts, ends, letters, units, keys, limit);
+    let rule = calls::limit_rule(starts, ends, letters, units, keys, limit);
     match rule {
         Rule::Breaks(why) => Answer::Refused(why),
         Rule::Fine => {

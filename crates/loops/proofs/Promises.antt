@@ -13,8 +13,8 @@ use Rattle.base.specs.declared.Rule.{Rule}
 use Rattle.base.specs.declared.Rule.the-variants.{Fine, Breaks}
 use Rattle.base.proofs.First.{None, First, fine-none, none-fine, breaks-first, first-breaks}
 use Rattle.checks.specs.Order.{inOrder, chain}
-use Rattle.checks.specs.Calls.{ofWords}
-use Rattle.checks.proofs.Within.{WordsWithin, words-exactly}
+use Rattle.calls.specs.Calls.{ofWords}
+use Rattle.calls.proofs.Within.{WordsWithin, words-exactly}
 use Rattle.loops.specs.declared.Answer.the-variants.{Accepted, Refused}
 use Rattle.loops.specs.Loops.{collapseLoops}
 use Rattle.loops.specs.Calls.{Output, accepted, byRule, collapseCall}

@@ -10,8 +10,8 @@ use Rattle.base.specs.declared.Rule.{Rule}
 use Rattle.base.specs.declared.Rule.the-variants.{Fine, Breaks}
 use Rattle.base.proofs.First.{fine-none}
 use Rattle.checks.specs.Order.{inOrder, chain}
-use Rattle.checks.specs.Calls.{ofWords}
-use Rattle.checks.proofs.Within.{words-exactly, one-length}
+use Rattle.calls.specs.Calls.{ofWords}
+use Rattle.calls.proofs.Within.{words-exactly, one-length}
 use Rattle.loops.specs.declared.Left.{Left}
 use Rattle.loops.specs.declared.Answer.the-variants.{Accepted, Refused}
 use Rattle.loops.specs.Loops.{collapseLoops}

@@ -15,7 +15,7 @@ use Rattle.base.specs.declared.Refusal.the-variants.{Lengths, Counts, Time, Let
 use Rattle.base.proofs.First.{first-skip, first-here, breaks-first}
 use Rattle.checks.specs.Limits.{any, timeOf}
 use Rattle.checks.specs.Order.{inOrder, chain}
-use Rattle.checks.specs.Calls.{uneven, ofWords}
+use Rattle.calls.specs.Calls.{uneven, ofWords}
 use Rattle.loops.specs.declared.Answer.the-variants.{Accepted, Refused}
 use Rattle.loops.specs.Loops.{equal, same, copiesEnd, isLoop, loopTurn, pass, collapseLoops}
 use Rattle.loops.specs.Calls.{output, collapseCall}

@@ -208,7 +208,7 @@ pub fn collapse_loops(
 ) -> Answer
     ensures { λ r. ⌜ output r (words (now (starts .exit)) (now (ends .exit)) (now (letters .exit)) (now (units .exit)) (now (keys .exit))) ≡ collapseCall (words (now (starts .entry)) (now (ends .entry)) (now (letters .entry)) (now (units .entry)) (now (keys .entry))) ⌝ }
 {
-    let rule = checks::chain(checks::of_words(starts, ends, letters, units, keys));
+    let rule = checks::chain(calls::of_words(starts, ends, letters, units, keys));
     match rule {
         Rule::Breaks(why) => Answer::Refused(why),
         Rule::Fine => accept(starts, ends, letters, units, keys),

@@ -16,7 +16,7 @@ use Rattle.frames.specs.Frames.{floorI64, ceilI64, frameAt, frameCeil, frameSec
 use Rattle.envelope.specs.Levels.{loudRow}
 use Rattle.checks.specs.Limits.{any, timeOf}
 use Rattle.checks.specs.Order.{inOrder, chain}
-use Rattle.checks.specs.Calls.{uneven, ofWords, withLevels, soundRule, output}
+use Rattle.calls.specs.Calls.{uneven, ofWords, withLevels, soundRule, output}
 use Rattle.checks.specs.declared.Answer.the-variants.{Accepted, Refused}
 use Rattle.onsets.specs.Onsets.{onsetFrame, onsetOf, prevEnd, onsetTurn, snapOnsets, onsetsCall}
 

@@ -14,7 +14,7 @@ use Rattle.base.specs.declared.Times.{Times}
 use Rattle.js.specs.Js.{jsMin}
 use Rattle.frames.specs.Frames.{frameAt, frameCeil, frameSeconds}
 use Rattle.envelope.specs.Levels.{loud, loudRow}
-use Rattle.checks.specs.Calls.{soundRule, Output, moved}
+use Rattle.calls.specs.Calls.{soundRule, Output, moved}
 
 -- ---- PAUSE, 0.15 s: from here on, what lies between two words is a pause.
 abbrev pub pause : Float

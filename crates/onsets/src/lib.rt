@@ -5,7 +5,7 @@ ghost use lib.IntN.{pos};
 ghost use lib.ListN.{length};
 ghost use Rattle.base.specs.Words.{words, edges};
 ghost use Rattle.envelope.specs.Levels.{loudRow};
-ghost use Rattle.checks.specs.Calls.{output};
+ghost use Rattle.calls.specs.Calls.{output};
 ghost use Rattle.onsets.specs.Onsets.{onsetFrame, onsetOf, prevEnd, snapOnsets, onsetsCall};
 ghost use Rattle.onsets.specs.Parts.{onsetSeconds, goesOn};
 use base::Rule;
@@ -126,7 +126,7 @@ pub fn snap_onsets(
 ) -> Answer
     ensures { λ r. ⌜ output r (words (now (starts .exit)) (now (ends .entry)) (now (letters .entry)) (now (units .entry)) (now (keys .entry))) ≡ onsetsCall (words (now (starts .entry)) (now (ends .entry)) (now (letters .entry)) (now (units .entry)) (now (keys .entry))) (now (levels .entry)) floor count ⌝ }
 {
-    let rule = checks::sound_rule(starts, ends, letters, units, keys, levels.len(), count);
+    let rule = calls::sound_rule(starts, ends, letters, units, keys, levels.len(), count);
     match rule {
         Rule::Breaks(why) => Answer::Refused(why),
         Rule::Fine => {

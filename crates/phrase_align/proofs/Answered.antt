@@ -10,9 +10,9 @@ use lib.ListN.{getD, length, drop, length-append, List·getD-append, take, repli
 use lib.Seq.{length-take-le, drop-at}
 use lib.Ieee.{nan}
 use Rattle.base.specs.Words.{Words, Spans, count, inPlaces, zeroF, wordsInPlaces}
-use Rattle.checks.proofs.Within.{one-length}
+use Rattle.calls.proofs.Within.{one-length}
 use Rattle.share.specs.Share.{sum}
-use Rattle.phrase_align.specs.Spread.{inside}
+use Rattle.spread.specs.Spread.{inside}
 use Rattle.phrase_align.specs.PhraseAlign.{alignPhrases, inTheirPlaces}
 use Rattle.phrase_align.specs.Calls.{alignCall}
 use Rattle.phrase_align.specs.declared.Answer.the-variants.{Accepted}

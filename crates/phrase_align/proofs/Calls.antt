@@ -12,10 +12,10 @@ use Rattle.base.specs.declared.Rule.{Rule}
 use Rattle.base.specs.declared.Rule.the-variants.{Fine, Breaks}
 use Rattle.base.proofs.First.{First, none-fine, breaks-first, first-breaks}
 use Rattle.checks.specs.Order.{inOrder, chain}
-use Rattle.checks.specs.Calls.{spansRule}
+use Rattle.calls.specs.Calls.{spansRule}
 use Rattle.checks.specs.declared.Applies.{Applies}
-use Rattle.checks.proofs.Within.{WordsWithin, SpansWithin}
-use Rattle.checks.proofs.Moved.{spansApplies, within-spans, spans-fine}
+use Rattle.calls.proofs.Within.{WordsWithin, SpansWithin}
+use Rattle.calls.proofs.Moved.{spansApplies, within-spans, spans-fine}
 use Rattle.phrase_align.specs.PhraseAlign.{alignPhrases}
 use Rattle.phrase_align.specs.Calls.{Output, output, accepted, byRule, alignCall}
 use Rattle.phrase_align.specs.declared.Answer.the-variants.{Accepted, Refused}

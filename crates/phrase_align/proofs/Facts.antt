@@ -17,10 +17,10 @@ use Rattle.base.proofs.Loops.{each-holds}
 use Rattle.base.proofs.Parts.{part-long, take-part, times-alike}
 use Rattle.share.specs.Share.{sum}
 use Rattle.share.proofs.Sums.{sum-nil, sum-take}
-use Rattle.phrase_align.specs.Spread.{inside, placeGroup}
+use Rattle.spread.specs.Spread.{inside, placeGroup}
 use Rattle.phrase_align.specs.PhraseAlign.{Placing, groupOf, extend, placedIn, placeTurn, alignPhrases}
-use Rattle.phrase_align.proofs.Long.{group-long}
-use Rattle.phrase_align.proofs.Untouched.{group-keeps}
+use Rattle.spread.proofs.Long.{group-long}
+use Rattle.spread.proofs.Untouched.{group-keeps}
 use Rattle.phrase_align.proofs.Joined.{placing, turn-always, count-group}
 
 -- ---- a word's two times, of all five lists

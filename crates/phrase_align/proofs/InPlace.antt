@@ -6,7 +6,7 @@ use lib.ListN.{getD, length, replicate}
 use lib.Ieee.{Float, nan}
 use Rattle.base.specs.Words.{Spans, Edges, edges, part, withPart, partEdges}
 use Rattle.base.proofs.Parts.{part-made}
-use Rattle.phrase_align.specs.Spread.{placeGroup}
+use Rattle.spread.specs.Spread.{placeGroup}
 use Rattle.phrase_align.specs.Parts.{Held, held, heldSpan, heldTurn}
 
 -- ---- one span's words

@@ -18,12 +18,12 @@ use Rattle.base.proofs.Cleared.{words-alike}
 use Rattle.base.proofs.Lists.{part-length}
 use Rattle.base.proofs.Parts.{part-none, part-long, back-first, back-rest, take-part}
 use Rattle.share.specs.Share.{share}
-use Rattle.phrase_align.specs.Spread.{spread, firstInside, placeGroup}
+use Rattle.spread.specs.Spread.{spread, firstInside, placeGroup}
 use Rattle.phrase_align.specs.PhraseAlign.{Placing, groupOf, extend, placedIn, placeTurn, alignPhrases, inTheirPlaces}
 use Rattle.phrase_align.specs.Calls.{output, accepted}
 use Rattle.phrase_align.specs.Parts.{Held, held, heldSpan, heldTurn, heldSpans}
 use Rattle.phrase_align.specs.declared.Answer.the-variants.{Accepted}
-use Rattle.phrase_align.proofs.Long.{group-long}
+use Rattle.spread.proofs.Long.{group-long}
 
 abbrev pub placing : Words → List ℕ → ℕ → Placing
 placing ws f k = record { words = ws; phrases = f; k = k }

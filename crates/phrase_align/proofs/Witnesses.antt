@@ -15,8 +15,8 @@ use Rattle.js.specs.Js.{under, jsMax}
 use Rattle.share.specs.Share as shares
 use Rattle.checks.specs.Limits.{any, timeOf}
 use Rattle.checks.specs.Order.{inOrder, chain}
-use Rattle.checks.specs.Calls.{uneven, ofWords, unevenSpans, manySpans, withSpans, withPlaces, spansRule}
-use Rattle.phrase_align.specs.Spread.{spread, inside, firstInside, lastInside, spreadBefore, spreadAfter, betweenTurn, placeBetween, placeGroup}
+use Rattle.calls.specs.Calls.{uneven, ofWords, unevenSpans, manySpans, withSpans, withPlaces, spansRule}
+use Rattle.spread.specs.Spread.{spread, inside, firstInside, lastInside, spreadBefore, spreadAfter, betweenTurn, placeBetween, placeGroup}
 use Rattle.phrase_align.specs.PhraseAlign.{groupOf, extend, placedIn, placeTurn, alignPhrases, inTheirPlaces}
 use Rattle.phrase_align.specs.Calls.{output, alignCall}
 use Rattle.phrase_align.specs.declared.Answer.the-variants.{Accepted, Refused}

@@ -1,5 +1,4 @@
 -- Words placed in the spans of their phrases.
-pub mod Spread
 pub mod PhraseAlign
 pub mod Calls
 pub mod Parts

@@ -5,12 +5,7 @@ use lib.ListN.{getD, length, replicate}
 use lib.Ieee.{Float, nan}
 use Rattle.base.specs.Loop.{each}
 use Rattle.base.specs.Words.{Spans, Edges, edges, part, withPart, onPart}
-use Rattle.phrase_align.specs.Spread.{lastInside, spreadBefore, spreadAfter, placeBetween, placeGroup}
-
--- ---- The words of a phrase of which word `first` is the first inside one.
-unfoldable pub placeAround : List ℕ → Float → Float → ℕ → Edges → Edges
-placeAround letters from to first es =
-    placeBetween from to first (lastInside from to es) (spreadAfter letters to (lastInside from to es) (spreadBefore letters from first es))
+use Rattle.spread.specs.Spread.{placeGroup}
 
 -- ---- The times and the phrase places, and how many words are placed so far.
 pub record Held : Type 0 where

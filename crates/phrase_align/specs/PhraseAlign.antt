@@ -7,7 +7,7 @@ use lib.ListN.{getD, length, drop, replicate}
 use lib.Ieee.{nan}
 use Rattle.base.specs.Loop.{each}
 use Rattle.base.specs.Words.{Words, words, Spans, edges, withEdges, count, part, inPlaces, wordsInPlaces}
-use Rattle.phrase_align.specs.Spread.{placeGroup}
+use Rattle.spread.specs.Spread.{placeGroup}
 
 -- ---- struct PhraseWords: the words placed so far, the number of each one's phrase; and k, how many words the spans so far count.
 pub record Placing : Type 0 where

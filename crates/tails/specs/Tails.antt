@@ -14,7 +14,7 @@ use Rattle.base.specs.declared.Times.{Times}
 use Rattle.js.specs.Js.{jsMax}
 use Rattle.frames.specs.Frames.{frameAt, frameSeconds}
 use Rattle.envelope.specs.Levels.{loud, loudRow}
-use Rattle.checks.specs.Calls.{soundRule, Output, moved}
+use Rattle.calls.specs.Calls.{soundRule, Output, moved}
 use Rattle.tails.specs.declared.Tail.{Tail}
 use Rattle.tails.specs.declared.Tail.the-variants.{Keeps, Hands}
 

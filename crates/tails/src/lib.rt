@@ -8,7 +8,7 @@ ghost use Rattle.base.specs.Floats.{_⊗_, num};
 ghost use Rattle.base.specs.Words.{words, edges};
 ghost use Rattle.frames.specs.Frames.{frameSeconds};
 ghost use Rattle.envelope.specs.Levels.{loudRow};
-ghost use Rattle.checks.specs.Calls.{output};
+ghost use Rattle.calls.specs.Calls.{output};
 ghost use Rattle.tails.specs.Tails.{minLetter, tailOf, handBack, handBackTails, tailsCall};
 ghost use Rattle.tails.specs.Parts.{across as acrossAt, lands as landsAt, below, three};
 use base::Rule;
@@ -155,7 +155,7 @@ pub fn hand_back_tails(
 ) -> Answer
     ensures { λ r. ⌜ output r (words (now (starts .exit)) (now (ends .exit)) (now (letters .entry)) (now (units .entry)) (now (keys .entry))) ≡ tailsCall (words (now (starts .entry)) (now (ends .entry)) (now (letters .entry)) (now (units .entry)) (now (keys .entry))) (now (levels .entry)) floor count ⌝ }
 {
-    let rule = checks::sound_rule(starts, ends, letters, units, keys, levels.len(), count);
+    let rule = calls::sound_rule(starts, ends, letters, units, keys, levels.len(), count);
     match rule {
         Rule::Breaks(why) => Answer::Refused(why),
         Rule::Fine => {

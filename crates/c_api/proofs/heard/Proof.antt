@@ -1,4 +1,5 @@
 -- `c_api::heard` meets its contract, case by case. Assumes nothing.
+use native.Mathlib.Omega.{arith}
 use mathlib.Core.Path.{sym, ap}
 use borrow.Author.Needs.{needs}
 use Rattle.c_api.specs.Answers.{heardOf}
@@ -12,7 +13,7 @@ enum-known-answer-2 : tie.Need-enum-known-answer-2
 enum-known-answer-2 c = search needs
 
 number-requires : tie.Need-number-requires
-number-requires c κs = search needs
+number-requires c κs = omega arith
 
 returns : tie.Need-returns
 returns c = sym (ap heardOf (c .before .answer .given .1))

@@ -1,4 +1,5 @@
 -- `c_api::placed` meets its contract, case by case. Assumes nothing.
+use native.Mathlib.Omega.{arith}
 use borrow.Author.Needs.{needs}
 use Rattle.c_api.proofs.placed.Statement.{statement}
 use Rattle.c_api.proofs.placed.Tie as tie
@@ -10,7 +11,7 @@ enum-known-answer-2 : tie.Need-enum-known-answer-2
 enum-known-answer-2 c = search needs
 
 number-requires : tie.Need-number-requires
-number-requires c κs = search needs
+number-requires c κs = omega arith
 
 returns : tie.Need-returns
 returns c = rw (c .before .answer .given .1)

@@ -1,6 +1,6 @@
 -- `c_api::qiluvrait_collapse_loops` meets its contract: what `loops::collapse_loops` answers and leaves. Assumes nothing.
+use native.Mathlib.Omega.{arith}
 use Rattle.c_api.proofs.Replies.{leaves-made}
-use borrow.Author.Needs.{needs}
 use Rattle.c_api.proofs.qiluvrait_collapse_loops.Statement.{statement}
 use Rattle.c_api.proofs.qiluvrait_collapse_loops.Tie as tie
 
@@ -11,19 +11,19 @@ left-requires : tie.Need-left-requires
 left-requires c κs = tt
 
 same-length : tie.Need-same-length
-same-length c = search needs
+same-length c = omega arith
 
 same-length-2 : tie.Need-same-length-2
-same-length-2 c = search needs
+same-length-2 c = omega arith
 
 same-length-3 : tie.Need-same-length-3
-same-length-3 c = search needs
+same-length-3 c = omega arith
 
 same-length-4 : tie.Need-same-length-4
-same-length-4 c = search needs
+same-length-4 c = omega arith
 
 same-length-5 : tie.Need-same-length-5
-same-length-5 c = search needs
+same-length-5 c = omega arith
 
 returns : tie.Need-returns
 returns c = leaves-made _ (c .left .ensures) (c .before .before .before .before .before .before .before .before .before .before .before .collapse-loops .ensures)

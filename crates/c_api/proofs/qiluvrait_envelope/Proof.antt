@@ -1,19 +1,19 @@
 -- `c_api::qiluvrait_envelope` meets its contract: what `envelope::envelope` answers and leaves. Assumes nothing.
+use native.Mathlib.Omega.{arith}
 use mathlib.Core.Path.{ap, _∙_}
-use borrow.Author.Needs.{needs}
 use Rattle.envelope.specs.Calls.{Output}
 use Rattle.c_api.specs.Answers.{heardOf}
 use Rattle.c_api.proofs.qiluvrait_envelope.Statement.{statement}
 use Rattle.c_api.proofs.qiluvrait_envelope.Tie as tie
 
 envelope-requires : tie.Need-envelope-requires
-envelope-requires c κs = search needs
+envelope-requires c κs = omega arith
 
 heard-requires : tie.Need-heard-requires
-heard-requires c κs = search needs
+heard-requires c κs = omega arith
 
 same-length : tie.Need-same-length
-same-length c = search needs
+same-length c = omega arith
 
 returns : tie.Need-returns
 returns c =

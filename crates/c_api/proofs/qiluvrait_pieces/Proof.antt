@@ -1,22 +1,22 @@
 -- `c_api::qiluvrait_pieces` meets its contract: what `pieces::pieces_at` answers and leaves. Assumes nothing.
+use native.Mathlib.Omega.{arith}
 use mathlib.Core.Path.{ap, _∙_}
-use borrow.Author.Needs.{needs}
 use Rattle.pieces.specs.Pieces.{Output}
 use Rattle.c_api.specs.Answers.{cutOf}
 use Rattle.c_api.proofs.qiluvrait_pieces.Statement.{statement}
 use Rattle.c_api.proofs.qiluvrait_pieces.Tie as tie
 
 pieces-at-requires : tie.Need-pieces-at-requires
-pieces-at-requires c κs = search needs
+pieces-at-requires c κs = omega arith
 
 cut-requires : tie.Need-cut-requires
-cut-requires c κs = search needs
+cut-requires c κs = omega arith
 
 same-length : tie.Need-same-length
-same-length c = search needs
+same-length c = omega arith
 
 same-length-2 : tie.Need-same-length-2
-same-length-2 c = search needs
+same-length-2 c = omega arith
 
 returns : tie.Need-returns
 returns c =

@@ -1,6 +1,6 @@
 -- `c_api::qiluvrait_snap_ends` meets its contract: what the stage answers and leaves. Assumes nothing.
+use native.Mathlib.Omega.{arith}
 use Rattle.c_api.proofs.Replies.{reply-made}
-use borrow.Author.Needs.{needs}
 use Rattle.c_api.proofs.qiluvrait_snap_ends.Statement.{statement}
 use Rattle.c_api.proofs.qiluvrait_snap_ends.Tie as tie
 
@@ -11,10 +11,10 @@ moved-requires : tie.Need-moved-requires
 moved-requires c κs = tt
 
 same-length : tie.Need-same-length
-same-length c = search needs
+same-length c = omega arith
 
 same-length-2 : tie.Need-same-length-2
-same-length-2 c = search needs
+same-length-2 c = omega arith
 
 returns : tie.Need-returns
 returns c = reply-made _ (c .moved .ensures) (c .before .before .before .before .before .snap-ends .ensures)

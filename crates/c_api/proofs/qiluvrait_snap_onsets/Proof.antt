@@ -1,6 +1,6 @@
 -- `c_api::qiluvrait_snap_onsets` meets its contract: what the stage answers and leaves. Assumes nothing.
+use native.Mathlib.Omega.{arith}
 use Rattle.c_api.proofs.Replies.{reply-made}
-use borrow.Author.Needs.{needs}
 use Rattle.c_api.proofs.qiluvrait_snap_onsets.Statement.{statement}
 use Rattle.c_api.proofs.qiluvrait_snap_onsets.Tie as tie
 
@@ -11,7 +11,7 @@ moved-requires : tie.Need-moved-requires
 moved-requires c κs = tt
 
 same-length : tie.Need-same-length
-same-length c = search needs
+same-length c = omega arith
 
 returns : tie.Need-returns
 returns c = reply-made _ (c .moved .ensures) (c .before .before .before .snap-onsets .ensures)

@@ -1,4 +1,5 @@
 -- `checks::any_outside` meets its contract: what is left of the list decides. Assumes nothing.
+use native.Mathlib.Omega.{arith}
 use Prim.Native.Nat.{_≤_, _-_}
 use mathlib.Core.Path.{_≡_, refl, sym, _∙_}
 use lib.ListN.{length, drop}
@@ -18,10 +19,10 @@ loop-holds : tie.Need-loop-holds Inv-loop μ-loop
 loop-holds c = (search needs, refl)
 
 mul-n : tie.Need-mul-n Inv-loop μ-loop
-mul-n c = search needs
+mul-n c = omega arith
 
 shared-slice-read-n : tie.Need-shared-slice-read-n Inv-loop μ-loop
-shared-slice-read-n c = search needs
+shared-slice-read-n c = omega arith
 
 returns : tie.Need-returns Inv-loop μ-loop
 returns c = sym (c .before .before .before .loop .inv .1 ∙ any-stop _ _ _ 0 (c .before .before .loop-test .taken) (below-outside _ _ _ (c .if1 .taken)))
@@ -32,10 +33,10 @@ returns-2 c =
     ∙ any-stop _ _ _ 0 (c .before .before .before .loop-test .taken) (above-outside _ _ _ (c .before .if1 .left) (c .if2 .taken)))
 
 add-i : tie.Need-add-i Inv-loop μ-loop
-add-i c = search needs
+add-i c = omega arith
 
 loop-less : tie.Need-loop-less Inv-loop μ-loop
-loop-less c = search needs
+loop-less c = omega arith
 
 loop-again : tie.Need-loop-again Inv-loop μ-loop
 loop-again c = (

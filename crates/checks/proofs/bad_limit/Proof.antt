@@ -1,13 +1,13 @@
 -- `checks::bad_limit` meets its contract. Assumes nothing.
-use borrow.Author.Needs.{needs}
+use native.Mathlib.Omega.{arith}
 use Rattle.checks.proofs.bad_limit.Statement.{statement}
 use Rattle.checks.proofs.bad_limit.Tie as tie
 
 limit-test-requires : tie.Need-limit-test-requires
-limit-test-requires c κs = search needs
+limit-test-requires c κs = omega arith
 
 not-fine-requires : tie.Need-not-fine-requires
-not-fine-requires c κs = search needs
+not-fine-requires c κs = omega arith
 
 returns : tie.Need-returns
 returns c = rw (c .not-fine .ensures, c .before .limit-test .ensures)

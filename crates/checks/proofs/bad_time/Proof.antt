@@ -1,13 +1,13 @@
 -- `checks::bad_time` meets its contract. Assumes nothing.
-use borrow.Author.Needs.{needs}
+use native.Mathlib.Omega.{arith}
 use Rattle.checks.proofs.bad_time.Statement.{statement}
 use Rattle.checks.proofs.bad_time.Tie as tie
 
 time-test-requires : tie.Need-time-test-requires
-time-test-requires c κs = search needs
+time-test-requires c κs = omega arith
 
 not-fine-requires : tie.Need-not-fine-requires
-not-fine-requires c κs = search needs
+not-fine-requires c κs = omega arith
 
 returns : tie.Need-returns
 returns c = rw (c .not-fine .ensures, c .before .time-test .ensures)

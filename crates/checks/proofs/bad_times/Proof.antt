@@ -1,4 +1,5 @@
 -- `checks::bad_times` meets its contract: what is left of the list decides. Assumes nothing.
+use native.Mathlib.Omega.{arith}
 use Prim.Native.Nat.{_≤_, _-_}
 use mathlib.Core.Path.{_≡_, refl, sym, _∙_}
 use lib.ListN.{length, drop}
@@ -19,13 +20,13 @@ loop-holds : tie.Need-loop-holds Inv-loop μ-loop
 loop-holds c = (search needs, refl)
 
 mul-bad-time : tie.Need-mul-bad-time Inv-loop μ-loop
-mul-bad-time c = search needs
+mul-bad-time c = omega arith
 
 shared-slice-read-bad-time : tie.Need-shared-slice-read-bad-time Inv-loop μ-loop
-shared-slice-read-bad-time c = search needs
+shared-slice-read-bad-time c = omega arith
 
 bad-time-requires : tie.Need-bad-time-requires Inv-loop μ-loop
-bad-time-requires c κs = search needs
+bad-time-requires c κs = omega arith
 
 returns : tie.Need-returns Inv-loop μ-loop
 returns c =
@@ -33,10 +34,10 @@ returns c =
     ∙ any-stop _ _ _ nan (c .before .before .before .loop-test .taken) (sym (c .before .bad-time .ensures) ∙ c .if1 .taken))
 
 add-i : tie.Need-add-i Inv-loop μ-loop
-add-i c = search needs
+add-i c = omega arith
 
 loop-less : tie.Need-loop-less Inv-loop μ-loop
-loop-less c = search needs
+loop-less c = omega arith
 
 loop-again : tie.Need-loop-again Inv-loop μ-loop
 loop-again c = (

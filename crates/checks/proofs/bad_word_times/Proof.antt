@@ -1,18 +1,18 @@
 -- `checks::bad_word_times` meets its contract. Assumes nothing.
+use native.Mathlib.Omega.{arith}
 use mathlib.Core.Path.{sym, _∙_}
-use borrow.Author.Needs.{needs}
 use Rattle.checks.proofs.Any.{or-first, or-second}
 use Rattle.checks.proofs.bad_word_times.Statement.{statement}
 use Rattle.checks.proofs.bad_word_times.Tie as tie
 
 bad-times-requires : tie.Need-bad-times-requires
-bad-times-requires c κs = search needs
+bad-times-requires c κs = omega arith
 
 returns : tie.Need-returns
 returns c = or-first _ (sym (c .before .bad-times .ensures) ∙ c .if1 .taken)
 
 bad-times-requires-2 : tie.Need-bad-times-requires-2
-bad-times-requires-2 c κs = search needs
+bad-times-requires-2 c κs = omega arith
 
 returns-2 : tie.Need-returns-2
 returns-2 c = or-second (sym (c .before .before .bad-times .ensures) ∙ c .before .if1 .left) (c .bad-times2 .ensures)

@@ -1,13 +1,13 @@
 -- `checks::limit_test` meets its contract. Assumes nothing.
+use native.Mathlib.Omega.{arith}
 use mathlib.Core.Path.{_∙_}
-use borrow.Author.Needs.{needs}
 use lib.Ieee.{ofBits}
 use Rattle.checks.proofs.Finite.{limit-finite, limit-top, limit-low}
 use Rattle.checks.proofs.limit_test.Statement.{statement}
 use Rattle.checks.proofs.limit_test.Tie as tie
 
 time-test-requires : tie.Need-time-test-requires
-time-test-requires c κs = search needs
+time-test-requires c κs = omega arith
 
 returns : tie.Need-returns
 unfolding ofBits
@@ -18,7 +18,7 @@ unfolding ofBits
 returns-2 c = limit-top _ (c .before .if1 .taken) (c .if2 .left)
 
 time-test-requires-2 : tie.Need-time-test-requires-2
-time-test-requires-2 c κs = search needs
+time-test-requires-2 c κs = omega arith
 
 returns-3 : tie.Need-returns-3
 unfolding ofBits

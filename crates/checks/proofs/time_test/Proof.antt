@@ -1,5 +1,5 @@
 -- `checks::time_test` meets its contract. Assumes nothing.
-use borrow.Author.Needs.{needs}
+use native.Mathlib.Omega.{arith}
 use lib.Ieee.{ofBits, neg}
 use Rattle.checks.proofs.Finite.{time-fine, time-low, time-high}
 use Rattle.checks.proofs.time_test.Statement.{statement}
@@ -10,14 +10,14 @@ unfolding ofBits neg
 returns c = time-fine _ (c .before .if1 .taken) (c .if2 .taken)
 
 no-time-requires : tie.Need-no-time-requires
-no-time-requires c κs = search needs
+no-time-requires c κs = omega arith
 
 returns-2 : tie.Need-returns-2
 unfolding ofBits neg
 returns-2 c = time-high _ (c .no-time .ensures) (c .before .before .if1 .taken) (c .before .if2 .left)
 
 no-time-requires-2 : tie.Need-no-time-requires-2
-no-time-requires-2 c κs = search needs
+no-time-requires-2 c κs = omega arith
 
 returns-3 : tie.Need-returns-3
 unfolding ofBits neg

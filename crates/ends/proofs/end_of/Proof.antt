@@ -1,5 +1,4 @@
 -- `ends::end_of` meets its contract. Assumes nothing.
-use borrow.Author.Needs.{needs}
 use Prim.Native.Nat.{min, _^_}
 use mathlib.Core.Path.{ap, _∙_}
 use native.Mathlib.Omega.{arith}
@@ -23,7 +22,7 @@ least-requires : tie.Need-least-requires
 least-requires c κs = tt
 
 last-loud-requires : tie.Need-last-loud-requires
-last-loud-requires c κs = search needs
+last-loud-requires c κs = omega arith
 
 sound-end-requires : tie.Need-sound-end-requires
 sound-end-requires c κs = tt

@@ -25,22 +25,22 @@ unfolding snapEnds
 loop-holds c = (refl, (refl, each-start _ _ _))
 
 snap-end-requires : tie.Need-snap-end-requires Inv-loop μ-loop
-snap-end-requires c κs = search needs
+snap-end-requires c κs = omega arith
 
 add-i : tie.Need-add-i Inv-loop μ-loop
-add-i c = search needs
+add-i c = omega arith
 
 loop-less : tie.Need-loop-less Inv-loop μ-loop
-loop-less c = search needs
+loop-less c = omega arith
 
 loop-again : tie.Need-loop-again Inv-loop μ-loop
 loop-again c = (search needs, (search needs, c .before .before .before .before .before .before .before .before .loop .inv .1 .1 ∙ each-next _ _ _ (omega arith) (c .before .before .before .before .snap-end .ensures)))
 
 same-length : tie.Need-same-length Inv-loop μ-loop
-same-length c = search needs
+same-length c = omega arith
 
 same-length-2 : tie.Need-same-length-2 Inv-loop μ-loop
-same-length-2 c = search needs
+same-length-2 c = omega arith
 
 returns : tie.Need-returns Inv-loop μ-loop
 returns c = sym (c .before .loop .inv .1 .1 ∙ each-done _ _ _ _ (omega arith))

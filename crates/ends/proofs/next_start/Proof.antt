@@ -1,21 +1,21 @@
 -- `ends::next_start` meets its contract. Assumes nothing.
-use borrow.Author.Needs.{needs}
+use native.Mathlib.Omega.{arith}
 use mathlib.Core.Path.{refl}
 use Rattle.ends.proofs.Turns.{next-there, next-none}
 use Rattle.ends.proofs.next_start.Statement.{statement}
 use Rattle.ends.proofs.next_start.Tie as tie
 
 add-if1 : tie.Need-add-if1
-add-if1 c = search needs
+add-if1 c = omega arith
 
 add-t6 : tie.Need-add-t6
-add-t6 c = search needs
+add-t6 c = omega arith
 
 mul-t7 : tie.Need-mul-t7
-mul-t7 c = search needs
+mul-t7 c = omega arith
 
 shared-slice-read-t9 : tie.Need-shared-slice-read-t9
-shared-slice-read-t9 c = search needs
+shared-slice-read-t9 c = omega arith
 
 returns : tie.Need-returns
 returns c = next-there _ _ (c .before .if1 .taken) refl

@@ -1,17 +1,17 @@
 -- `ends::pair_edge` meets its contract. Assumes nothing.
-use borrow.Author.Needs.{needs}
+use native.Mathlib.Omega.{arith}
 use Rattle.ends.proofs.Turns.{edge-is}
 use Rattle.ends.proofs.pair_edge.Statement.{statement}
 use Rattle.ends.proofs.pair_edge.Tie as tie
 
 int-to-float-share : tie.Need-int-to-float-share
-int-to-float-share c = search needs
+int-to-float-share c = omega arith
 
 int-to-float-share-2 : tie.Need-int-to-float-share-2
-int-to-float-share-2 c = search needs
+int-to-float-share-2 c = omega arith
 
 int-to-float-share-3 : tie.Need-int-to-float-share-3
-int-to-float-share-3 c = search needs
+int-to-float-share-3 c = omega arith
 
 js-max-requires : tie.Need-js-max-requires
 js-max-requires c κs = tt

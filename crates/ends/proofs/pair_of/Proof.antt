@@ -1,11 +1,11 @@
 -- `ends::pair_of` meets its contract. Assumes nothing.
-use borrow.Author.Needs.{needs}
+use native.Mathlib.Omega.{arith}
 use Rattle.ends.proofs.Turns.{pair-is}
 use Rattle.ends.proofs.pair_of.Statement.{statement}
 use Rattle.ends.proofs.pair_of.Tie as tie
 
 pair-start-requires : tie.Need-pair-start-requires
-pair-start-requires c κs = search needs
+pair-start-requires c κs = omega arith
 
 pair-edge-requires : tie.Need-pair-edge-requires
 pair-edge-requires c κs = tt

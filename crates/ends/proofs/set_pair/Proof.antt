@@ -1,4 +1,5 @@
 -- `ends::set_pair` meets its contract. Assumes nothing.
+use native.Mathlib.Omega.{arith}
 use borrow.Author.Needs.{needs}
 use mathlib.Core.Path.{refl}
 use Rattle.ends.specs.Ends.{setPair}
@@ -6,22 +7,22 @@ use Rattle.ends.proofs.set_pair.Statement.{statement}
 use Rattle.ends.proofs.set_pair.Tie as tie
 
 mul-starts : tie.Need-mul-starts
-mul-starts c = search needs
+mul-starts c = omega arith
 
 slice-write-starts : tie.Need-slice-write-starts
-slice-write-starts c = search needs
+slice-write-starts c = omega arith
 
 mul-ends : tie.Need-mul-ends
-mul-ends c = search needs
+mul-ends c = omega arith
 
 slice-write-ends : tie.Need-slice-write-ends
-slice-write-ends c = search needs
+slice-write-ends c = omega arith
 
 add-starts : tie.Need-add-starts
-add-starts c = search needs
+add-starts c = omega arith
 
 mul-starts-2 : tie.Need-mul-starts-2
-mul-starts-2 c = search needs
+mul-starts-2 c = omega arith
 
 slice-write-starts-2 : tie.Need-slice-write-starts-2
 slice-write-starts-2 c = search needs

@@ -1,6 +1,6 @@
 -- `ends::snap_ends` meets its contract, by what the tests found. Assumes nothing.
 use mathlib.Core.Path.{refl, sym, _∙_}
-use Rattle.checks.proofs.Moved.{timed-fine, few-levels}
+use Rattle.calls.proofs.Moved.{timed-fine, few-levels}
 use Rattle.ends.proofs.Calls.{refused-made, accepted-made}
 use borrow.Author.Needs.{needs}
 use Rattle.ends.proofs.snap_ends.Statement.{statement}

@@ -1,4 +1,5 @@
 -- `envelope::envelope` meets its contract: what the tests found decides. Assumes nothing.
+use native.Mathlib.Omega.{arith}
 use mathlib.Core.Path.{sym, _∙_}
 use borrow.Author.Needs.{needs}
 use Rattle.envelope.proofs.Limits.{fine-limits, call-by}
@@ -6,7 +7,7 @@ use Rattle.envelope.proofs.envelope.Statement.{statement}
 use Rattle.envelope.proofs.envelope.Tie as tie
 
 judge-requires : tie.Need-judge-requires
-judge-requires c κs = search needs
+judge-requires c κs = omega arith
 
 enum-told : tie.Need-enum-told
 enum-told c = search needs
@@ -18,7 +19,7 @@ enum-known-rule : tie.Need-enum-known-rule
 enum-known-rule c = search needs
 
 same-length : tie.Need-same-length
-same-length c = search needs
+same-length c = omega arith
 
 returns : tie.Need-returns
 returns c =
@@ -26,7 +27,7 @@ returns c =
     ∙ sym (call-by _ _ (sym (c .before .before .before .before .before .before .judge .ensures) ∙ c .before .before .before .before .enum-told .given .1))
 
 same-length-2 : tie.Need-same-length-2
-same-length-2 c = search needs
+same-length-2 c = omega arith
 
 returns-2 : tie.Need-returns-2
 returns-2 c = sym (call-by _ _ (sym (c .before .before .before .judge .ensures) ∙ c .before .rule .given .1))

@@ -1,4 +1,5 @@
 -- `envelope::fill` meets its contract: what is left of the stores, from where the loop stands, gives the whole. Assumes nothing.
+use native.Mathlib.Omega.{arith}
 use Prim.Native.Nat.{_≤_, _-_}
 use mathlib.Core.Path.{_≡_, refl, sym, ap, _∙_}
 use lib.ListN.{length, set, length-set}
@@ -20,37 +21,37 @@ loop-holds : tie.Need-loop-holds Inv-loop μ-loop
 loop-holds c = (search needs, (refl, each-start _ _ _))
 
 mul-from : tie.Need-mul-from Inv-loop μ-loop
-mul-from c = search needs
+mul-from c = omega arith
 
 add-to : tie.Need-add-to Inv-loop μ-loop
-add-to c = search needs
+add-to c = omega arith
 
 mul-level : tie.Need-mul-level Inv-loop μ-loop
-mul-level c = search needs
+mul-level c = omega arith
 
 sub-level : tie.Need-sub-level Inv-loop μ-loop
-sub-level c = search needs
+sub-level c = omega arith
 
 part-level-start : tie.Need-part-level-start Inv-loop μ-loop
-part-level-start c = search needs
+part-level-start c = omega arith
 
 part-level-end : tie.Need-part-level-end Inv-loop μ-loop
-part-level-end c = search needs
+part-level-end c = omega arith
 
 level-requires : tie.Need-level-requires Inv-loop μ-loop
-level-requires c κs = search needs
+level-requires c κs = omega arith
 
 mul-levels : tie.Need-mul-levels Inv-loop μ-loop
-mul-levels c = search needs
+mul-levels c = omega arith
 
 slice-write-levels : tie.Need-slice-write-levels Inv-loop μ-loop
-slice-write-levels c = search needs
+slice-write-levels c = omega arith
 
 add-k : tie.Need-add-k Inv-loop μ-loop
-add-k c = search needs
+add-k c = omega arith
 
 loop-less : tie.Need-loop-less Inv-loop μ-loop
-loop-less c = search needs
+loop-less c = omega arith
 
 loop-again : tie.Need-loop-again Inv-loop μ-loop
 loop-again c =

@@ -1,4 +1,5 @@
 -- `envelope::floor_of` meets its contract: what is left of the maximum, from where the loop stands, gives the whole. Assumes nothing.
+use native.Mathlib.Omega.{arith}
 use Prim.Native.Nat.{_≤_, _-_}
 use mathlib.Core.Path.{_≡_, refl, sym, ap, _∙_}
 use lib.ListN.{length, drop}
@@ -22,19 +23,19 @@ unfolding peak
 loop-holds c = (search needs, refl)
 
 mul-js-max : tie.Need-mul-js-max Inv-loop μ-loop
-mul-js-max c = search needs
+mul-js-max c = omega arith
 
 shared-slice-read-js-max : tie.Need-shared-slice-read-js-max Inv-loop μ-loop
-shared-slice-read-js-max c = search needs
+shared-slice-read-js-max c = omega arith
 
 js-max-requires : tie.Need-js-max-requires Inv-loop μ-loop
-js-max-requires c κs = search needs
+js-max-requires c κs = omega arith
 
 add-i : tie.Need-add-i Inv-loop μ-loop
-add-i c = search needs
+add-i c = omega arith
 
 loop-less : tie.Need-loop-less Inv-loop μ-loop
-loop-less c = search needs
+loop-less c = omega arith
 
 loop-again : tie.Need-loop-again Inv-loop μ-loop
 loop-again c = (search needs, c .before .before .before .loop .inv .1 ∙ fold-next _ _ _ nan (c .before .before .loop-test .taken) (cc))

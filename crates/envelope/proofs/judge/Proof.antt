@@ -1,20 +1,20 @@
 -- `envelope::judge` meets its contract: the tests in their order. Assumes nothing.
+use native.Mathlib.Omega.{arith}
 use mathlib.Core.Path.{sym, _∙_}
-use borrow.Author.Needs.{needs}
 use Rattle.base.proofs.First.{first-here, first-skip, first-end}
 use Rattle.envelope.specs.Calls.{tests}
 use Rattle.envelope.proofs.judge.Statement.{statement}
 use Rattle.envelope.proofs.judge.Tie as tie
 
 many-samples-requires : tie.Need-many-samples-requires
-many-samples-requires c κs = search needs
+many-samples-requires c κs = omega arith
 
 returns : tie.Need-returns
 unfolding tests
 returns c = sym (first-here _ _ (sym (c .before .many-samples .ensures) ∙ c .if1 .taken))
 
 few-places-requires : tie.Need-few-places-requires
-few-places-requires c κs = search needs
+few-places-requires c κs = omega arith
 
 returns-2 : tie.Need-returns-2
 unfolding tests

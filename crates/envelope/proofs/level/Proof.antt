@@ -1,14 +1,14 @@
 -- `envelope::level` meets its contract. Assumes nothing.
-use borrow.Author.Needs.{needs}
+use native.Mathlib.Omega.{arith}
 use Rattle.envelope.specs.Levels.{level}
 use Rattle.envelope.proofs.level.Statement.{statement}
 use Rattle.envelope.proofs.level.Tie as tie
 
 squares-requires : tie.Need-squares-requires
-squares-requires c κs = search needs
+squares-requires c κs = omega arith
 
 sqrt-requires : tie.Need-sqrt-requires
-sqrt-requires c κs = search needs
+sqrt-requires c κs = omega arith
 
 returns : tie.Need-returns
 unfolding level

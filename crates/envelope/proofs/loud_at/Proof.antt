@@ -1,15 +1,15 @@
 -- `envelope::loud_at` meets its contract. Assumes nothing.
+use native.Mathlib.Omega.{arith}
 use mathlib.Core.Path.{sym}
-use borrow.Author.Needs.{needs}
 use Rattle.envelope.proofs.Floors.{loud-level, loud-outside}
 use Rattle.envelope.proofs.loud_at.Statement.{statement}
 use Rattle.envelope.proofs.loud_at.Tie as tie
 
 mul-result : tie.Need-mul-result
-mul-result c = search needs
+mul-result c = omega arith
 
 shared-slice-read-result : tie.Need-shared-slice-read-result
-shared-slice-read-result c = search needs
+shared-slice-read-result c = omega arith
 
 returns : tie.Need-returns
 returns c = sym (loud-level _ _ _)

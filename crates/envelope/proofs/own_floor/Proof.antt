@@ -1,12 +1,12 @@
 -- `envelope::own_floor` meets its contract: NaN as NaN, and any other floor by its bits. Assumes nothing.
-use borrow.Author.Needs.{needs}
+use native.Mathlib.Omega.{arith}
 use Rattle.base.proofs.Signs.{no-nan}
 use Rattle.envelope.proofs.Floors.{own-nan, other-nan, own-bits}
 use Rattle.envelope.proofs.own_floor.Statement.{statement}
 use Rattle.envelope.proofs.own_floor.Tie as tie
 
 floor-of-requires : tie.Need-floor-of-requires
-floor-of-requires c κs = search needs
+floor-of-requires c κs = omega arith
 
 returns : tie.Need-returns
 returns c = own-nan _ _ (c .before .floor-of .ensures) (c .if1 .taken)

@@ -1,4 +1,5 @@
 -- `envelope::squares` meets its contract: what is left of the sum, from where the loop stands, gives the whole. Assumes nothing.
+use native.Mathlib.Omega.{arith}
 use Prim.Native.Nat.{_≤_, _-_}
 use mathlib.Core.Path.{_≡_, refl, sym, _∙_}
 use lib.ListN.{length, drop}
@@ -21,20 +22,20 @@ unfolding squares
 loop-holds c = (search needs, refl)
 
 mul-f32-to-f64-with-nan : tie.Need-mul-f32-to-f64-with-nan Inv-loop μ-loop
-mul-f32-to-f64-with-nan c = search needs
+mul-f32-to-f64-with-nan c = omega arith
 
 shared-slice-read-f32-to-f64-with-nan :
     tie.Need-shared-slice-read-f32-to-f64-with-nan Inv-loop μ-loop
-shared-slice-read-f32-to-f64-with-nan c = search needs
+shared-slice-read-f32-to-f64-with-nan c = omega arith
 
 f32-to-f64-with-nan-requires : tie.Need-f32-to-f64-with-nan-requires Inv-loop μ-loop
-f32-to-f64-with-nan-requires c κs = search needs
+f32-to-f64-with-nan-requires c κs = omega arith
 
 add-i : tie.Need-add-i Inv-loop μ-loop
-add-i c = search needs
+add-i c = omega arith
 
 loop-less : tie.Need-loop-less Inv-loop μ-loop
-loop-less c = search needs
+loop-less c = omega arith
 
 loop-again : tie.Need-loop-again Inv-loop μ-loop
 loop-again c = (search needs, c .before .before .before .loop .inv .1 ∙ fold-next _ _ _ nan (c .before .before .loop-test .taken) (cc))

@@ -1,7 +1,7 @@
 -- `even::even_out` meets its contract, by what the tests found. Assumes nothing.
 use borrow.Author.Needs.{needs}
 use mathlib.Core.Path.{refl, sym, _∙_}
-use Rattle.checks.proofs.Moved.{limit-fine}
+use Rattle.calls.proofs.Moved.{limit-fine}
 use Rattle.even.proofs.Calls.{refused-made, accepted-made}
 use Rattle.even.proofs.even_out.Statement.{statement}
 use Rattle.even.proofs.even_out.Tie as tie

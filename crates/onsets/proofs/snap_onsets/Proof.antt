@@ -1,6 +1,6 @@
 -- `onsets::snap_onsets` meets its contract, by what the tests found. Assumes nothing.
 use mathlib.Core.Path.{refl, sym, _∙_}
-use Rattle.checks.proofs.Moved.{sound-fine}
+use Rattle.calls.proofs.Moved.{sound-fine}
 use Rattle.onsets.proofs.Calls.{refused-made, accepted-made}
 use borrow.Author.Needs.{needs}
 use Rattle.onsets.proofs.snap_onsets.Statement.{statement}

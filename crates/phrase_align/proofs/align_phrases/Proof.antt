@@ -1,8 +1,8 @@
 -- `phrase_align::align_phrases` meets its contract, by what the tests found. Assumes nothing.
 use mathlib.Core.Path.{refl, sym, _∙_}
 use native.Mathlib.Nat.{le-trans, le-of-eq}
-use Rattle.checks.proofs.Moved.{spans-fine}
-use Rattle.checks.proofs.Within.{one-length}
+use Rattle.calls.proofs.Moved.{spans-fine}
+use Rattle.calls.proofs.Within.{one-length}
 use Rattle.phrase_align.proofs.Calls.{refused-made, accepted-made}
 use borrow.Author.Needs.{needs}
 use Rattle.phrase_align.proofs.align_phrases.Statement.{statement}

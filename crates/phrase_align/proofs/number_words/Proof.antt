@@ -18,13 +18,13 @@ loop-holds : tie.Need-loop-holds Inv-loop μ-loop
 loop-holds c = (refl, (omega arith, refl))
 
 mul-phrases : tie.Need-mul-phrases Inv-loop μ-loop
-mul-phrases c = search needs
+mul-phrases c = omega arith
 
 slice-write-phrases : tie.Need-slice-write-phrases Inv-loop μ-loop
 slice-write-phrases c = omega arith
 
 add-i : tie.Need-add-i Inv-loop μ-loop
-add-i c = search needs
+add-i c = omega arith
 
 loop-less : tie.Need-loop-less Inv-loop μ-loop
 loop-less c = omega arith

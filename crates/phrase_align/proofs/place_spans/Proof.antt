@@ -24,10 +24,10 @@ unfolding heldSpans
 loop-holds c = (omega arith, (refl, (refl, (refl, each-start _ _ _))))
 
 mul-least : tie.Need-mul-least Inv-loop μ-loop
-mul-least c = search needs
+mul-least c = omega arith
 
 shared-slice-read-least : tie.Need-shared-slice-read-least Inv-loop μ-loop
-shared-slice-read-least c = search needs
+shared-slice-read-least c = omega arith
 
 cast-least : tie.Need-cast-least Inv-loop μ-loop
 cast-least c = omega (arith, c .shared-slice-known5 .given (c .before .before .loop .p))
@@ -36,19 +36,19 @@ add-least : tie.Need-add-least Inv-loop μ-loop
 add-least c = omega (arith, c .shared-slice-known5 .given (c .before .before .loop .p))
 
 least-requires : tie.Need-least-requires Inv-loop μ-loop
-least-requires c κs = search needs
+least-requires c κs = omega arith
 
 mul-place-span : tie.Need-mul-place-span Inv-loop μ-loop
-mul-place-span c = search needs
+mul-place-span c = omega arith
 
 shared-slice-read-place-span : tie.Need-shared-slice-read-place-span Inv-loop μ-loop
-shared-slice-read-place-span c = search needs
+shared-slice-read-place-span c = omega arith
 
 mul-place-span-2 : tie.Need-mul-place-span-2 Inv-loop μ-loop
-mul-place-span-2 c = search needs
+mul-place-span-2 c = omega arith
 
 shared-slice-read-place-span-2 : tie.Need-shared-slice-read-place-span-2 Inv-loop μ-loop
-shared-slice-read-place-span-2 c = search needs
+shared-slice-read-place-span-2 c = omega arith
 
 cast-place-span : tie.Need-cast-place-span Inv-loop μ-loop
 cast-place-span c = omega arith
@@ -57,7 +57,7 @@ place-span-requires : tie.Need-place-span-requires Inv-loop μ-loop
 place-span-requires c κs = (omega arith, (omega arith, (omega arith, (omega arith, (omega (arith, c .before .before .before .before .before .least .ensures), omega (arith, c .before .before .before .before .before .least .ensures))))))
 
 add-p : tie.Need-add-p Inv-loop μ-loop
-add-p c = search needs
+add-p c = omega arith
 
 loop-less : tie.Need-loop-less Inv-loop μ-loop
 loop-less c = omega arith
@@ -66,13 +66,13 @@ loop-again : tie.Need-loop-again Inv-loop μ-loop
 loop-again c = (omega (arith, c .before .before .before .before .before .before .before .before .before .before .before .before .least .ensures), (search needs, (search needs, (search needs, c .before .before .before .before .before .before .before .before .before .before .before .before .before .before .before .loop .inv .1 .1 .1 .1 ∙ each-next _ _ _ (omega arith) (turn-made _ _ _ _ (c .before .before .before .before .before .before .before .before .before .before .before .before .least .ensures) (c .before .before .before .before .before .before .place-span .ensures))))))
 
 same-length : tie.Need-same-length Inv-loop μ-loop
-same-length c = search needs
+same-length c = omega arith
 
 same-length-2 : tie.Need-same-length-2 Inv-loop μ-loop
-same-length-2 c = search needs
+same-length-2 c = omega arith
 
 same-length-3 : tie.Need-same-length-3 Inv-loop μ-loop
-same-length-3 c = search needs
+same-length-3 c = omega arith
 
 returns : tie.Need-returns Inv-loop μ-loop
 returns c = (sym (c .before .loop .inv .1 .1 .1 .1 ∙ each-done _ _ _ _ (omega arith)), c .before .loop .inv .0)

@@ -1,9 +1,9 @@
 -- `tails::across` meets its contract. Assumes nothing.
+use native.Mathlib.Omega.{arith}
 use mathlib.Core.Path.{sym, _∙_}
 use Rattle.tails.specs.Parts.{across}
 use borrow.Author.Tests.{eq-eqb}
 use Rattle.tails.proofs.Searches.{across-go, across-no}
-use borrow.Author.Needs.{needs}
 use Rattle.tails.proofs.across.Statement.{statement}
 use Rattle.tails.proofs.across.Tie as tie
 
@@ -12,7 +12,7 @@ unfolding across
 returns c = rw (eq-eqb _ _ (c .if1 .taken))
 
 sub-loud-at : tie.Need-sub-loud-at
-sub-loud-at c = search needs
+sub-loud-at c = omega arith
 
 loud-at-requires : tie.Need-loud-at-requires
 loud-at-requires c κs = tt

@@ -1,4 +1,5 @@
 -- `tails::hand_back` meets its contract. Assumes nothing.
+use native.Mathlib.Omega.{arith}
 use Rattle.tails.proofs.Turns.{hand-keeps, hand-hands}
 use borrow.Author.Needs.{needs}
 use Rattle.tails.proofs.hand_back.Statement.{statement}
@@ -11,31 +12,31 @@ enum-known-t : tie.Need-enum-known-t
 enum-known-t c = search needs
 
 sub-js-max : tie.Need-sub-js-max
-sub-js-max c = search needs
+sub-js-max c = omega arith
 
 mul-js-max : tie.Need-mul-js-max
-mul-js-max c = search needs
+mul-js-max c = omega arith
 
 slice-read-js-max : tie.Need-slice-read-js-max
-slice-read-js-max c = search needs
+slice-read-js-max c = omega arith
 
 js-max-requires : tie.Need-js-max-requires
 js-max-requires c κs = tt
 
 sub-ends : tie.Need-sub-ends
-sub-ends c = search needs
+sub-ends c = omega arith
 
 mul-ends : tie.Need-mul-ends
-mul-ends c = search needs
+mul-ends c = omega arith
 
 slice-write-ends : tie.Need-slice-write-ends
-slice-write-ends c = search needs
+slice-write-ends c = omega arith
 
 mul-starts : tie.Need-mul-starts
-mul-starts c = search needs
+mul-starts c = omega arith
 
 slice-write-starts : tie.Need-slice-write-starts
-slice-write-starts c = search needs
+slice-write-starts c = omega arith
 
 returns : tie.Need-returns
 returns c = hand-keeps _ _ _ _ (c .enum-told .given .1)

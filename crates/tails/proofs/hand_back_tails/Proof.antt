@@ -1,7 +1,7 @@
 -- `tails::hand_back_tails` meets its contract, by what the tests found. Assumes nothing.
 use mathlib.Core.Path.{refl, sym, _∙_}
-use Rattle.checks.proofs.Moved.{sound-fine, few-levels}
-use Rattle.checks.proofs.Within.{letters-most}
+use Rattle.calls.proofs.Moved.{sound-fine, few-levels}
+use Rattle.calls.proofs.Within.{letters-most}
 use Rattle.tails.proofs.Calls.{refused-made, accepted-made}
 use borrow.Author.Needs.{needs}
 use Rattle.tails.proofs.hand_back_tails.Statement.{statement}

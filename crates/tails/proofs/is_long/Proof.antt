@@ -1,5 +1,5 @@
 -- `tails::is_long` meets its contract. Assumes nothing.
-use borrow.Author.Needs.{needs}
+use native.Mathlib.Omega.{arith}
 use Rattle.tails.proofs.is_long.Statement.{statement}
 use Rattle.tails.proofs.is_long.Tie as tie
 
@@ -7,7 +7,7 @@ index-seconds-requires : tie.Need-index-seconds-requires
 index-seconds-requires c κs = tt
 
 int-to-float-result : tie.Need-int-to-float-result
-int-to-float-result c = search needs
+int-to-float-result c = omega arith
 
 returns : tie.Need-returns
 returns c = cc

@@ -26,43 +26,43 @@ unfolding handBackTails
 loop-holds c = (omega arith, (refl, (refl, refl)))
 
 mul-t9 : tie.Need-mul-t9 Inv-loop μ-loop
-mul-t9 c = search needs
+mul-t9 c = omega arith
 
 slice-read-t12 : tie.Need-slice-read-t12 Inv-loop μ-loop
-slice-read-t12 c = search needs
+slice-read-t12 c = omega arith
 
 mul-tail-of : tie.Need-mul-tail-of Inv-loop μ-loop
-mul-tail-of c = search needs
+mul-tail-of c = omega arith
 
 slice-read-tail-of : tie.Need-slice-read-tail-of Inv-loop μ-loop
-slice-read-tail-of c = search needs
+slice-read-tail-of c = omega arith
 
 sub-tail-of : tie.Need-sub-tail-of Inv-loop μ-loop
-sub-tail-of c = search needs
+sub-tail-of c = omega arith
 
 mul-tail-of-2 : tie.Need-mul-tail-of-2 Inv-loop μ-loop
-mul-tail-of-2 c = search needs
+mul-tail-of-2 c = omega arith
 
 slice-read-tail-of-2 : tie.Need-slice-read-tail-of-2 Inv-loop μ-loop
-slice-read-tail-of-2 c = search needs
+slice-read-tail-of-2 c = omega arith
 
 mul-tail-of-3 : tie.Need-mul-tail-of-3 Inv-loop μ-loop
-mul-tail-of-3 c = search needs
+mul-tail-of-3 c = omega arith
 
 shared-slice-read-tail-of : tie.Need-shared-slice-read-tail-of Inv-loop μ-loop
-shared-slice-read-tail-of c = search needs
+shared-slice-read-tail-of c = omega arith
 
 tail-of-requires : tie.Need-tail-of-requires Inv-loop μ-loop
 tail-of-requires c κs = (omega arith, c .before .before .before .before .before .before .before .before .before .before .pre .1 .1 .1 _)
 
 hand-back-requires : tie.Need-hand-back-requires Inv-loop μ-loop
-hand-back-requires c κs = search needs
+hand-back-requires c κs = omega arith
 
 add-i : tie.Need-add-i Inv-loop μ-loop
-add-i c = search needs
+add-i c = omega arith
 
 loop-less : tie.Need-loop-less Inv-loop μ-loop
-loop-less c = search needs
+loop-less c = omega arith
 
 loop-again : tie.Need-loop-again Inv-loop μ-loop
 loop-again c = (
@@ -78,10 +78,10 @@ loop-again c = (
 )
 
 same-length : tie.Need-same-length Inv-loop μ-loop
-same-length c = search needs
+same-length c = omega arith
 
 same-length-2 : tie.Need-same-length-2 Inv-loop μ-loop
-same-length-2 c = search needs
+same-length-2 c = omega arith
 
 returns : tie.Need-returns Inv-loop μ-loop
 returns c = sym (c .before .loop .inv .1 .1 .1 ∙ each-done _ _ _ _ (omega arith))

@@ -1,7 +1,7 @@
 -- `tails::own_sound` meets its contract. Assumes nothing.
+use native.Mathlib.Omega.{arith}
 use mathlib.Core.Path.{sym, _∙_}
 use Rattle.tails.proofs.Searches.{three-go, three-two, three-one}
-use borrow.Author.Needs.{needs}
 use Rattle.tails.proofs.own_sound.Statement.{statement}
 use Rattle.tails.proofs.own_sound.Tie as tie
 
@@ -9,13 +9,13 @@ loud-below-requires : tie.Need-loud-below-requires
 loud-below-requires c κs = tt
 
 add-loud-below : tie.Need-add-loud-below
-add-loud-below c = search needs
+add-loud-below c = omega arith
 
 loud-below-requires-2 : tie.Need-loud-below-requires-2
 loud-below-requires-2 c κs = tt
 
 add-loud-below-2 : tie.Need-add-loud-below-2
-add-loud-below-2 c = search needs
+add-loud-below-2 c = omega arith
 
 loud-below-requires-3 : tie.Need-loud-below-requires-3
 loud-below-requires-3 c κs = tt

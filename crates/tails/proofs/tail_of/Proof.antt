@@ -4,7 +4,6 @@ use mathlib.Core.Path.{sym, ap, _∙_}
 use native.Mathlib.Omega.{arith}
 use borrow.Author.Tests.{not-true, not-false}
 use Rattle.tails.proofs.Turns.{tail-early, tail-far, tail-long, tail-close, tail-thin, tail-hands, search-ends}
-use borrow.Author.Needs.{needs}
 use Rattle.tails.proofs.tail_of.Statement.{statement}
 use Rattle.tails.proofs.tail_of.Tie as tie
 
@@ -24,7 +23,7 @@ least-requires : tie.Need-least-requires
 least-requires c κs = tt
 
 add-least : tie.Need-add-least
-add-least c = search needs
+add-least c = omega arith
 
 least-requires-2 : tie.Need-least-requires-2
 least-requires-2 c κs = tt
@@ -33,13 +32,13 @@ first-frame-requires : tie.Need-first-frame-requires
 first-frame-requires c κs = tt
 
 sub-if2 : tie.Need-sub-if2
-sub-if2 c = search needs
+sub-if2 c = omega arith
 
 returns-2 : tie.Need-returns-2
 returns-2 c = tail-far _ _ (omega arith) _ _ _ _ (c .before .before .before .before .before .before .before .frame-index .ensures) _ _ _ (c .before .before .before .least .ensures ∙ ap (min _) (c .before .before .before .before .frame-index2 .ensures)) (c .before .before .least2 .ensures) (sym (c .before .before .before .before .before .before .lands .ensures) ∙ not-false _ (c .before .before .before .before .before .if1 .left)) (c .before .first-frame .ensures) (omega arith) (c .if2 .taken)
 
 sub-is-long : tie.Need-sub-is-long
-sub-is-long c = search needs
+sub-is-long c = omega arith
 
 is-long-requires : tie.Need-is-long-requires
 is-long-requires c κs = tt
@@ -51,7 +50,7 @@ first-frame-requires-2 : tie.Need-first-frame-requires-2
 first-frame-requires-2 c κs = tt
 
 sub-if4 : tie.Need-sub-if4
-sub-if4 c = search needs
+sub-if4 c = omega arith
 
 returns-4 : tie.Need-returns-4
 returns-4 c = tail-close _ _ (omega arith) _ _ _ _ (c .before .before .before .before .before .before .before .before .before .before .before .frame-index .ensures) _ _ _ (c .before .before .before .before .before .before .before .least .ensures ∙ ap (min _) (c .before .before .before .before .before .before .before .before .frame-index2 .ensures)) (c .before .before .before .before .before .before .least2 .ensures) (sym (c .before .before .before .before .before .before .before .before .before .before .lands .ensures) ∙ not-false _ (c .before .before .before .before .before .before .before .before .before .if1 .left)) (c .before .before .before .before .before .first-frame .ensures) (c .before .before .before .before .if2 .left) _ (sym (c .before .before .before .is-long .ensures) ∙ c .before .before .if3 .left) (c .before .first-frame2 .ensures) (c .if4 .taken)

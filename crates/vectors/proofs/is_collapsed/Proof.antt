@@ -2,7 +2,6 @@
 use mathlib.Core.Path.{sym}
 use native.Mathlib.Omega.{arith}
 use lib.Seq.{length-take-le}
-use borrow.Author.Needs.{needs}
 use Rattle.vectors.proofs.is_collapsed.Statement.{statement}
 use Rattle.vectors.proofs.is_collapsed.Tie as tie
 
@@ -10,37 +9,37 @@ returns : tie.Need-returns
 returns c = tt
 
 slice-aggregate-set-keys : tie.Need-slice-aggregate-set-keys
-slice-aggregate-set-keys c = search needs
+slice-aggregate-set-keys c = omega arith
 
 set-keys-requires : tie.Need-set-keys-requires
 set-keys-requires c κs = tt
 
 array-borrow-prefix-starts : tie.Need-array-borrow-prefix-starts
-array-borrow-prefix-starts c = search needs
+array-borrow-prefix-starts c = omega arith
 
 slice-aggregate-collapse-loops : tie.Need-slice-aggregate-collapse-loops
 slice-aggregate-collapse-loops c = sym (length-take-le _ _ (omega arith))
 
 array-borrow-prefix-ends : tie.Need-array-borrow-prefix-ends
-array-borrow-prefix-ends c = search needs
+array-borrow-prefix-ends c = omega arith
 
 slice-aggregate-collapse-loops-2 : tie.Need-slice-aggregate-collapse-loops-2
 slice-aggregate-collapse-loops-2 c = sym (length-take-le _ _ (omega arith))
 
 array-borrow-prefix-letters : tie.Need-array-borrow-prefix-letters
-array-borrow-prefix-letters c = search needs
+array-borrow-prefix-letters c = omega arith
 
 slice-aggregate-collapse-loops-3 : tie.Need-slice-aggregate-collapse-loops-3
 slice-aggregate-collapse-loops-3 c = sym (length-take-le _ _ (omega arith))
 
 array-borrow-prefix-units : tie.Need-array-borrow-prefix-units
-array-borrow-prefix-units c = search needs
+array-borrow-prefix-units c = omega arith
 
 slice-aggregate-collapse-loops-4 : tie.Need-slice-aggregate-collapse-loops-4
 slice-aggregate-collapse-loops-4 c = sym (length-take-le _ _ (omega arith))
 
 array-borrow-prefix-keys : tie.Need-array-borrow-prefix-keys
-array-borrow-prefix-keys c = search needs
+array-borrow-prefix-keys c = omega arith
 
 slice-aggregate-collapse-loops-5 : tie.Need-slice-aggregate-collapse-loops-5
 slice-aggregate-collapse-loops-5 c = sym (length-take-le _ _ (omega arith))
@@ -49,13 +48,13 @@ collapse-loops-requires : tie.Need-collapse-loops-requires
 collapse-loops-requires c κs = tt
 
 enum-known-answer : tie.Need-enum-known-answer
-enum-known-answer c = search needs
+enum-known-answer c = omega arith
 
 is-left-requires : tie.Need-is-left-requires
 is-left-requires c κs = tt
 
 enum-told : tie.Need-enum-told
-enum-told c = search needs
+enum-told c = omega arith
 
 returns-2 : tie.Need-returns-2
 returns-2 c = tt

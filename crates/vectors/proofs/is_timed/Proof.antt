@@ -3,18 +3,17 @@ use mathlib.Core.Path.{sym}
 use native.Mathlib.Omega.{arith}
 use lib.ListN.{length-take}
 use lib.Seq.{length-take-le}
-use borrow.Author.Needs.{needs}
 use Rattle.vectors.proofs.is_timed.Statement.{statement}
 use Rattle.vectors.proofs.is_timed.Tie as tie
 
 slice-aggregate-set-keys : tie.Need-slice-aggregate-set-keys
-slice-aggregate-set-keys c = search needs
+slice-aggregate-set-keys c = omega arith
 
 set-keys-requires : tie.Need-set-keys-requires
 set-keys-requires c κs = tt
 
 array-read-wide : tie.Need-array-read-wide
-array-read-wide c = search needs
+array-read-wide c = omega arith
 
 wide-requires : tie.Need-wide-requires
 wide-requires c κs = tt
@@ -23,37 +22,37 @@ returns : tie.Need-returns
 returns c = tt
 
 array-read-wide-2 : tie.Need-array-read-wide-2
-array-read-wide-2 c = search needs
+array-read-wide-2 c = omega arith
 
 wide-requires-2 : tie.Need-wide-requires-2
 wide-requires-2 c κs = tt
 
 slice-aggregate-set-times : tie.Need-slice-aggregate-set-times
-slice-aggregate-set-times c = search needs
+slice-aggregate-set-times c = omega arith
 
 parts-requires : tie.Need-parts-requires
 parts-requires c κs = tt
 
 set-times-requires : tie.Need-set-times-requires
-set-times-requires c κs = search needs
+set-times-requires c κs = omega arith
 
 slice-aggregate-set-times-2 : tie.Need-slice-aggregate-set-times-2
-slice-aggregate-set-times-2 c = search needs
+slice-aggregate-set-times-2 c = omega arith
 
 parts-requires-2 : tie.Need-parts-requires-2
 parts-requires-2 c κs = tt
 
 set-times-requires-2 : tie.Need-set-times-requires-2
-set-times-requires-2 c κs = search needs
+set-times-requires-2 c κs = omega arith
 
 array-borrow-prefix-starts : tie.Need-array-borrow-prefix-starts
-array-borrow-prefix-starts c = search needs
+array-borrow-prefix-starts c = omega arith
 
 slice-aggregate-is-placed : tie.Need-slice-aggregate-is-placed
 slice-aggregate-is-placed c = sym (length-take-le _ _ (omega arith))
 
 array-borrow-prefix-ends : tie.Need-array-borrow-prefix-ends
-array-borrow-prefix-ends c = search needs
+array-borrow-prefix-ends c = omega arith
 
 slice-aggregate-is-placed-2 : tie.Need-slice-aggregate-is-placed-2
 slice-aggregate-is-placed-2 c = sym (length-take-le _ _ (omega arith))
@@ -62,13 +61,13 @@ is-placed-requires : tie.Need-is-placed-requires
 is-placed-requires c κs = simp length-take (omega arith)
 
 array-borrow-prefix-starts-2 : tie.Need-array-borrow-prefix-starts-2
-array-borrow-prefix-starts-2 c = search needs
+array-borrow-prefix-starts-2 c = omega arith
 
 slice-aggregate-is-evened : tie.Need-slice-aggregate-is-evened
 slice-aggregate-is-evened c = sym (length-take-le _ _ (omega arith))
 
 array-borrow-prefix-ends-2 : tie.Need-array-borrow-prefix-ends-2
-array-borrow-prefix-ends-2 c = search needs
+array-borrow-prefix-ends-2 c = omega arith
 
 slice-aggregate-is-evened-2 : tie.Need-slice-aggregate-is-evened-2
 slice-aggregate-is-evened-2 c = sym (length-take-le _ _ (omega arith))

@@ -1,0 +1,4 @@
+-- Laws of the calls on words.
+pub mod Filled
+pub mod Within
+pub mod Moved
