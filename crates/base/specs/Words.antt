@@ -83,6 +83,10 @@ wordsInPlaces places ws =
 abbrev pub edgeQuiet : ℕ
 edgeQuiet = 8
 
--- ---- LOOSE of onsets.rs, 0.05 s.
+-- ---- END_SILENCE of fit.rs: so many quiet frames in a row, 150 ms, end a word.
+abbrev pub endSilence : ℕ
+endSilence = 15
+
+-- ---- LOOSE of onsets.rs and of fit.rs, 0.05 s.
 abbrev pub loose : Float
 loose = ofBits binary64 0x3fa9_9999_9999_999a

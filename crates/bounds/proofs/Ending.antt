@@ -31,8 +31,10 @@ use Rattle.js.proofs.ToFixed.{nearestUp-bounds}
 use Rattle.frames.specs.Frames.{frameAt, frameSeconds}
 use Rattle.envelope.specs.Levels.{loud}
 use Rattle.calls.proofs.Within.{AllFrom}
-use Rattle.ends.specs.Ends.{noLength, pairSpan, nextStart, isPair, findTurn, pairStart, pairEdge, pairOf, Last, lastTurn, lastLoud, soundEnd, reach, orDuration, trimmed, endOf, endTurn, snapEnds, setPair}
-use Rattle.ends.proofs.Turns.{pair-in}
+use Rattle.sounds.specs.Ends.{Last, lastTurn, lastLoud, soundEnd}
+use Rattle.word_end.specs.Ends.{noLength, pairSpan, nextStart, isPair, findTurn, pairStart, pairEdge, pairOf, reach, orDuration, trimmed, endOf}
+use Rattle.ends.specs.Ends.{endTurn, snapEnds, setPair}
+use Rattle.word_end.proofs.OneWord.{pair-in}
 use Rattle.bounds.specs.Bounds.{Under, EdgesUnder}
 use Rattle.bounds.proofs.Rounding.{under-more, round-under, add-under, max-under, min-under}
 use Rattle.bounds.proofs.Seconds.{hour-under}

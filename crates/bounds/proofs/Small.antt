@@ -19,7 +19,7 @@ use Rattle.calls.proofs.Within.{Within, LimitWithin, WordsWithin}
 use Rattle.calls.proofs.Moved.{SoundWithin}
 use Rattle.envelope.specs.Levels.{loudRow}
 use Rattle.envelope.proofs.Scan.{length-row}
-use Rattle.loops.specs.Loops.{collapseLoops}
+use Rattle.passes.specs.Loops.{collapseLoops}
 use Rattle.loops.specs.Calls.{Output, collapseCall}
 use Rattle.loops.proofs.Kept.{All, all-append, all-at, at-all, left-within}
 use Rattle.loops.proofs.Promises as loops
@@ -29,7 +29,7 @@ use Rattle.onsets.specs.Onsets.{snapOnsets, onsetsCall}
 use Rattle.onsets.proofs.Calls as onsets
 use Rattle.ends.specs.Ends.{snapEnds, endsCall}
 use Rattle.ends.proofs.Calls as ends
-use Rattle.phrase_align.specs.PhraseAlign.{alignPhrases, inTheirPlaces}
+use Rattle.phrases.specs.PhraseAlign.{alignPhrases, inTheirPlaces}
 use Rattle.phrase_align.specs.Calls as placings
 use Rattle.phrase_align.specs.Calls.{alignCall}
 use Rattle.phrase_align.proofs.Calls as placing

@@ -5,7 +5,8 @@ ghost use mathlib.Core.Bool.{cond};
 ghost use lib.Ieee.{binary64};
 ghost use Rattle.js.specs.Js.{jsMin, jsMax, jsToFixed};
 ghost use Rattle.roots.specs.Sqrt.{sqrt as sqrtOf};
-ghost use Rattle.envelope.specs.Calls.{envelopeCall, ownFloor};
+ghost use Rattle.floors.specs.Floors.{ownFloor};
+ghost use Rattle.envelope.specs.Calls.{envelopeCall};
 ghost use Rattle.pieces.specs.Pieces.{piecesCall};
 ghost use Rattle.base.specs.Words.{words, spans};
 ghost use Rattle.loops.specs.Calls.{collapseCall};
@@ -105,7 +106,7 @@ pub extern "C" fn qiluvrait_envelope(samples: &[f32], levels: &mut [f64]) -> Qil
 pub extern "C" fn qiluvrait_own_floor(levels: &[f64], floor: f64) -> bool
     ensures { λ r. ⌜ r ≡ ownFloor (now (levels .entry)) floor ⌝ }
 {
-    envelope::own_floor(levels, floor)
+    floors::own_floor(levels, floor)
 }
 
 // What qiluvrait_pieces answers: refusal 0 and the number of pieces, or the number of the refusal.

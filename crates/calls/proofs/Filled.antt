@@ -6,9 +6,11 @@ use lib.ListN.{length}
 use lib.Ieee.{Float}
 use Rattle.base.specs.Words.{Words, Spans}
 use Rattle.base.specs.declared.Rule.{Rule}
-use Rattle.checks.specs.Limits.{differ, many, manySamples, badTime, badLimit, badWordTimes, badSpanTimes, badLetters, fewPlaces, otherLevels}
+use Rattle.size_tests.specs.Limits.{differ, many, manySamples, fewPlaces, otherLevels}
+use Rattle.time_tests.specs.Limits.{badTime, badLimit}
+use Rattle.checks.specs.Limits.{badWordTimes, badSpanTimes, badLetters}
 use Rattle.checks.specs.Order.{chain}
-use Rattle.calls.specs.Calls.{uneven, ofWords, withLevels, withTime, withLimit, unevenSpans, manySpans, withSpans, withPlaces, soundRule, timedRule, limitRule, spansRule}
+use Rattle.calls.specs.Calls.{uneven, ofWords, withLevels, withTime, withLimit, unevenSpans, manySpans, withSpans, withPlaces, withList, soundRule, timedRule, limitRule, spansRule, phrasesRule}
 use Rattle.checks.specs.declared.Applies.{Applies}
 
 -- ---- the lengths of five lists, test by test
@@ -64,6 +66,11 @@ module _ (a : Applies) where
   unfolding withPlaces
   withPlaces-made places need p q = rw (q, p)
 
+  pub withList-made : (list words : ℕ) {m b : Bool} → m ≡ differ list words → b ≡ (a .lengths || m)
+      → record { lengths = b; counts = a .counts; times = a .times; letters = a .letters; levels = a .levels; places = a .places; cut = a .cut } ≡ withList list words a
+  unfolding withList
+  withList-made list words p q = rw (q, p)
+
 -- ---- what the tests find, from what applies
 module _ (ws : Words) (levels samples : ℕ) {a b : Applies} (p : a ≡ ofWords ws) (q : b ≡ withLevels levels samples a) where
   pub soundRule-made : {r : Rule} → r ≡ chain b → r ≡ soundRule ws levels samples
@@ -82,3 +89,8 @@ module _ (ws : Words) {a : Applies} (p : a ≡ ofWords ws) where
   pub spansRule-made : (sp : Spans) (places need : ℕ) {b d : Applies} {r : Rule} → b ≡ withSpans sp a → d ≡ withPlaces places need b → r ≡ chain d → r ≡ spansRule ws sp places need
   unfolding spansRule
   spansRule-made sp places need q s e = rw (e, s, q, p)
+
+  pub phrasesRule-made : (phrases : ℕ) (sp : Spans) (levels samples places need : ℕ) {b d e f : Applies} {r : Rule} → b ≡ withList phrases (length (ws .starts)) a → d ≡ withLevels levels samples b
+      → e ≡ withSpans sp d → f ≡ withPlaces places need e → r ≡ chain f → r ≡ phrasesRule ws phrases sp levels samples places need
+  unfolding phrasesRule
+  phrasesRule-made phrases sp levels samples places need q s t u v = rw (v, u, t, s, q, p)

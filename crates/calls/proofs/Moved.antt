@@ -6,6 +6,7 @@ use mathlib.Core.Logic.{_↔_}
 use mathlib.Core.List.{List}
 use native.Mathlib.Omega.{arith}
 use native.Mathlib.Nat.{div-le-self}
+use lib.ListN.{length}
 use lib.Ieee.{Float}
 use Rattle.base.specs.Words.{Words, words, Spans, Edges, edges, withEdges}
 use Rattle.base.specs.declared.Refusal.{Refusal}
@@ -13,10 +14,10 @@ use Rattle.base.specs.declared.Rule.{Rule}
 use Rattle.base.specs.declared.Rule.the-variants.{Fine, Breaks}
 use Rattle.base.proofs.First.{None, First, fine-none, none-fine, breaks-first, first-breaks}
 use Rattle.checks.specs.Order.{inOrder, chain}
-use Rattle.calls.specs.Calls.{ofWords, withLevels, withTime, withLimit, withSpans, withPlaces, soundRule, timedRule, limitRule, spansRule, output, moved}
+use Rattle.calls.specs.Calls.{ofWords, withLevels, withTime, withLimit, withSpans, withPlaces, withList, soundRule, timedRule, limitRule, spansRule, phrasesRule, output, moved}
 use Rattle.checks.specs.declared.Applies.{Applies}
 use Rattle.checks.specs.declared.Answer.the-variants.{Accepted, Refused}
-use Rattle.calls.proofs.Within.{Within, LimitWithin, WordsWithin, SpansWithin, words-exactly, levels-exactly, time-exactly, limit-exactly, spans-exactly, places-exactly}
+use Rattle.calls.proofs.Within.{Within, LimitWithin, WordsWithin, SpansWithin, words-exactly, levels-exactly, time-exactly, limit-exactly, spans-exactly, places-exactly, list-exactly}
 
 -- ---- the three fields of a word that no such call changes
 pub record Keeps (before after : Words) : Type 0 where
@@ -151,6 +152,33 @@ module _ (ws : Words) (sp : Spans) (places need : ℕ) where
   pub spans-fine : spansRule ws sp places need ≡ Fine → WordsWithin ws × (SpansWithin sp × (need ≤ places))
   unfolding spansRule chain
   spans-fine h = within-spans .1 (fine-none (inOrder (spansApplies ws sp places need)) h)
+
+-- ---- words with so many phrase numbers, spans, levels and samples, and so many places where so many are needed
+abbrev pub phrasesApplies : Words → ℕ → Spans → ℕ → ℕ → ℕ → ℕ → Applies
+phrasesApplies ws phrases sp levels samples places need =
+    withPlaces places need (withSpans sp (withLevels levels samples (withList phrases (length (ws .starts)) (ofWords ws))))
+
+-- ---- "within the limits" for them: a phrase number for each word, and places that suffice
+abbrev pub PhrasesWithin : Words → ℕ → Spans → ℕ → ℕ → ℕ → ℕ → Type 0
+PhrasesWithin ws phrases sp levels samples places need =
+    SoundWithin ws levels samples × ((phrases ≡ length (ws .starts)) × (SpansWithin sp × (need ≤ places)))
+
+module _ (ws : Words) (phrases : ℕ) (sp : Spans) (levels samples places need : ℕ) where
+  pub within-phrases : PhrasesWithin ws phrases sp levels samples places need ↔ None (inOrder (phrasesApplies ws phrases sp levels samples places need))
+  within-phrases =
+      let w = words-exactly ws in
+      let b = withList phrases (length (ws .starts)) (ofWords ws) in
+      let n = list-exactly (ofWords ws) phrases (length (ws .starts)) in
+      let l = levels-exactly b levels samples in
+      let s = spans-exactly (withLevels levels samples b) sp in
+      let p = places-exactly (withSpans sp (withLevels levels samples b)) places need in (
+        (λ h. p .0 (s .0 (l .0 (n .0 (w .0 (h .0 .0), h .1 .0), h .0 .1), h .1 .1 .0), h .1 .1 .1)),
+        (λ h. let i = p .1 h in let j = s .1 (i .0) in let k = l .1 (j .0) in let m = n .1 (k .0) in ((w .1 (m .0), k .1), (m .1, (j .1, i .1)))),
+      )
+
+  pub phrases-fine : phrasesRule ws phrases sp levels samples places need ≡ Fine → PhrasesWithin ws phrases sp levels samples places need
+  unfolding phrasesRule chain
+  phrases-fine h = within-phrases .1 (fine-none (inOrder (phrasesApplies ws phrases sp levels samples places need)) h)
 
 -- an hour has few levels
 pub few-levels : {levels samples : ℕ} → (samples ≤ 57600000) × (levels ≡ samples / 160) → levels ≤ 2 ^ 40

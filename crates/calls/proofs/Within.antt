@@ -12,13 +12,14 @@ use lib.Ieee.{Float, nan, inf, fin, le}
 use Rattle.base.specs.Words.{Words, Spans, count}
 use Rattle.base.specs.Parts.{OneLength}
 use Rattle.base.proofs.First.{None}
-use Rattle.checks.specs.Limits.{any, least, most, timeOf, limitOf, isFine, badTime, badLimit, outside}
+use Rattle.time_tests.specs.Limits.{least, most, timeOf, limitOf, isFine, badTime, badLimit}
+use Rattle.checks.specs.Limits.{any, outside}
 use Rattle.checks.specs.Order.{inOrder}
-use Rattle.calls.specs.Calls.{uneven, ofWords, withLevels, withTime, withLimit, unevenSpans, manySpans, withSpans, withPlaces}
+use Rattle.calls.specs.Calls.{uneven, ofWords, withLevels, withTime, withLimit, unevenSpans, manySpans, withSpans, withPlaces, withList}
 use Rattle.checks.specs.declared.Applies.{Applies}
-use Rattle.checks.specs.declared.TimeTest.{TimeTest}
-use Rattle.checks.specs.declared.TimeTest.the-variants as time
-use Rattle.checks.proofs.Finite.{time-fine}
+use Rattle.time_tests.specs.declared.TimeTest.{TimeTest}
+use Rattle.time_tests.specs.declared.TimeTest.the-variants as time
+use Rattle.time_tests.proofs.Finite.{time-fine}
 
 -- ---- a time from -7,200 to 7,200, which NaN and the infinities are not
 abbrev pub Within : Float → Type 0
@@ -257,3 +258,14 @@ module _ (a : Applies) where
       from n =
           let h = neither _ _ (n .1 .1 .1 .1 .1 .0) in
           ((n .0, (n .1 .0, (n .1 .1 .0, (n .1 .1 .1 .0, (n .1 .1 .1 .1 .0, (h .0, n .1 .1 .1 .1 .1 .1)))))), ltb-false places need (h .1))
+
+  -- ---- with one list more that belongs to the words
+  pub list-exactly : (list words : ℕ) → (None (inOrder a) × (list ≡ words)) ↔ None (inOrder (withList list words a))
+  unfolding inOrder withList
+  list-exactly list words = (to, from)
+    where
+      to : None (inOrder a) × (list ≡ words) → None (inOrder (withList list words a))
+      to (n, w) = (both-not (n .0) (differ-no w), n .1)
+
+      from : None (inOrder (withList list words a)) → None (inOrder a) × (list ≡ words)
+      from n = let h = neither _ _ (n .0) in ((h .0, n .1), alike (h .1))

@@ -6,7 +6,9 @@ use lib.Ieee.{Float}
 use Rattle.base.specs.Words.{Words, Spans, Edges, withEdges}
 use Rattle.base.specs.declared.Rule.{Rule}
 use Rattle.base.specs.declared.Rule.the-variants.{Fine, Breaks}
-use Rattle.checks.specs.Limits.{differ, many, manySamples, badTime, badLimit, badWordTimes, badSpanTimes, badLetters, badCounts, fewPlaces, otherLevels}
+use Rattle.size_tests.specs.Limits.{differ, many, manySamples, fewPlaces, otherLevels}
+use Rattle.time_tests.specs.Limits.{badTime, badLimit}
+use Rattle.checks.specs.Limits.{badWordTimes, badSpanTimes, badLetters, badCounts}
 use Rattle.checks.specs.Order.{chain}
 use Rattle.checks.specs.declared.Applies.{Applies}
 use Rattle.checks.specs.declared.Answer.{Answer}
@@ -96,6 +98,18 @@ withPlaces places need a = record {
   cut = a .cut;
 }
 
+-- ---- And what applies of one list more that belongs to so many words, as their phrase numbers: 3.
+unfoldable pub withList : ℕ → ℕ → Applies → Applies
+withList list words a = record {
+  lengths = a .lengths || differ list words;
+  counts = a .counts;
+  times = a .times;
+  letters = a .letters;
+  levels = a .levels;
+  places = a .places;
+  cut = a .cut;
+}
+
 -- ---- What the tests find of a stage on sound: 3, 4, 1, 2, 7.
 unfoldable pub soundRule : Words → ℕ → ℕ → Rule
 soundRule ws levels samples = chain (withLevels levels samples (ofWords ws))
@@ -111,6 +125,11 @@ limitRule ws limit = chain (withLimit limit (ofWords ws))
 -- ---- What the tests find of words, spans, and so many places where so many are needed: 3, 4, 1, 2, 6.
 unfoldable pub spansRule : Words → Spans → ℕ → ℕ → Rule
 spansRule ws sp places need = chain (withPlaces places need (withSpans sp (ofWords ws)))
+
+-- ---- What the tests find of words with so many phrase numbers, spans, levels and samples, and so many places where so many are needed: 3, 4, 1, 2, 7, 6.
+unfoldable pub phrasesRule : Words → ℕ → Spans → ℕ → ℕ → ℕ → ℕ → Rule
+phrasesRule ws phrases sp levels samples places need =
+    chain (withPlaces places need (withSpans sp (withLevels levels samples (withList phrases (length (ws .starts)) (ofWords ws)))))
 
 -- ---- What a call gives back that moves the words' times, and what the words are afterwards.
 pub record Output : Type 0 where

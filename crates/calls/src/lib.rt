@@ -2,7 +2,7 @@
 ghost use mathlib.Core.Path.{_≡_};
 ghost use mathlib.Core.Bool.{_||_};
 ghost use Rattle.base.specs.Words.{words, spans};
-ghost use Rattle.calls.specs.Calls.{uneven, ofWords, withLevels, withTime, withLimit, unevenSpans, manySpans, withSpans, withPlaces, soundRule, timedRule, limitRule, spansRule};
+ghost use Rattle.calls.specs.Calls.{uneven, ofWords, withLevels, withTime, withLimit, unevenSpans, manySpans, withSpans, withPlaces, withList, soundRule, timedRule, limitRule, spansRule, phrasesRule};
 use base::Rule;
 use checks::Applies;
 
@@ -10,16 +10,16 @@ use checks::Applies;
 fn lists_differ(starts: usize, ends: usize, letters: usize, units: usize, keys: usize) -> bool
     ensures { λ r. ⌜ r ≡ uneven starts ends letters units keys ⌝ }
 {
-    if checks::differ_in_length(ends, starts) {
+    if size_tests::differ_in_length(ends, starts) {
         return true;
     }
-    if checks::differ_in_length(letters, starts) {
+    if size_tests::differ_in_length(letters, starts) {
         return true;
     }
-    if checks::differ_in_length(units, starts) {
+    if size_tests::differ_in_length(units, starts) {
         return true;
     }
-    checks::differ_in_length(keys, starts)
+    size_tests::differ_in_length(keys, starts)
 }
 
 // What applies of a word list: 3, 4, 1, 2.
@@ -40,7 +40,7 @@ pub fn of_words(
             units.len(),
             keys.len(),
         ),
-        counts: checks::many(starts.len()),
+        counts: size_tests::many(starts.len()),
         times: checks::bad_word_times(starts, ends),
         letters: checks::bad_letters(letters, units),
         levels: false,
@@ -65,10 +65,10 @@ pub fn with_levels(a: Applies, levels: usize, samples: usize) -> Applies
 {
     Applies {
         lengths: a.lengths,
-        counts: either(a.counts, checks::many_samples(samples)),
+        counts: either(a.counts, size_tests::many_samples(samples)),
         times: a.times,
         letters: a.letters,
-        levels: either(a.levels, checks::other_levels(levels, samples)),
+        levels: either(a.levels, size_tests::other_levels(levels, samples)),
         places: a.places,
         cut: a.cut,
     }
@@ -81,7 +81,7 @@ pub fn with_time(a: Applies, t: f64) -> Applies
     Applies {
         lengths: a.lengths,
         counts: a.counts,
-        times: either(a.times, checks::bad_time(t)),
+        times: either(a.times, time_tests::bad_time(t)),
         letters: a.letters,
         levels: a.levels,
         places: a.places,
@@ -96,7 +96,7 @@ pub fn with_limit(a: Applies, t: f64) -> Applies
     Applies {
         lengths: a.lengths,
         counts: a.counts,
-        times: either(a.times, checks::bad_limit(t)),
+        times: either(a.times, time_tests::bad_limit(t)),
         letters: a.letters,
         levels: a.levels,
         places: a.places,
@@ -109,8 +109,8 @@ fn span_lists_differ(starts: usize, ends: usize, counts: usize) -> bool
     ensures { λ r. ⌜ r ≡ unevenSpans starts ends counts ⌝ }
 {
     either(
-        checks::differ_in_length(ends, starts),
-        checks::differ_in_length(counts, starts),
+        size_tests::differ_in_length(ends, starts),
+        size_tests::differ_in_length(counts, starts),
     )
 }
 
@@ -118,7 +118,7 @@ fn span_lists_differ(starts: usize, ends: usize, counts: usize) -> bool
 fn many_spans(starts: &[f64], ends: &[f64], counts: &[u32]) -> bool
     ensures { λ r. ⌜ r ≡ manySpans (spans (now (starts .entry)) (now (ends .entry)) (now (counts .entry))) ⌝ }
 {
-    either(checks::many(starts.len()), checks::bad_counts(counts))
+    either(size_tests::many(starts.len()), checks::bad_counts(counts))
 }
 
 // And what applies of a list of spans: 3, 4, 1.
@@ -149,7 +149,22 @@ pub fn with_places(a: Applies, places: usize, need: usize) -> Applies
         times: a.times,
         letters: a.letters,
         levels: a.levels,
-        places: either(a.places, checks::few_places(places, need)),
+        places: either(a.places, size_tests::few_places(places, need)),
+        cut: a.cut,
+    }
+}
+
+// And what applies of one list more that belongs to the words: 3.
+pub fn with_list(a: Applies, list: usize, words: usize) -> Applies
+    ensures { λ r. ⌜ r ≡ withList list words a ⌝ }
+{
+    Applies {
+        lengths: either(a.lengths, size_tests::differ_in_length(list, words)),
+        counts: a.counts,
+        times: a.times,
+        letters: a.letters,
+        levels: a.levels,
+        places: a.places,
         cut: a.cut,
     }
 }
@@ -224,4 +239,36 @@ pub fn spans_rule(
         counts,
     );
     checks::chain(with_places(a, places, need))
+}
+
+// What the tests find of words in phrases, spans, levels, and so many places where so many are needed: 3, 4, 1, 2, 7, 6.
+pub fn phrases_rule(
+    starts: &[f64],
+    ends: &[f64],
+    letters: &[u32],
+    units: &[u32],
+    keys: &[u32],
+    phrases: usize,
+    span_starts: &[f64],
+    span_ends: &[f64],
+    counts: &[u32],
+    levels: usize,
+    samples: usize,
+    places: usize,
+    need: usize,
+) -> Rule
+    ensures { λ r. ⌜ r ≡ phrasesRule (words (now (starts .entry)) (now (ends .entry)) (now (letters .entry)) (now (units .entry)) (now (keys .entry))) phrases (spans (now («span_starts» .entry)) (now («span_ends» .entry)) (now (counts .entry))) levels samples places need ⌝ }
+{
+    let a = with_list(
+        of_words(starts, ends, letters, units, keys),
+        phrases,
+        starts.len(),
+    );
+    let b = with_spans(
+        with_levels(a, levels, samples),
+        span_starts,
+        span_ends,
+        counts,
+    );
+    checks::chain(with_places(b, places, need))
 }

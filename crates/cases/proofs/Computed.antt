@@ -11,34 +11,25 @@ use Rattle.base.specs.Words.{edges, partEdges, onPart}
 use Rattle.js.specs.Js.{under, jsMax, jsMin, jsToFixed, nearestUp}
 use Rattle.frames.specs.Frames.{floorI64, frameAt, frameSeconds}
 use Rattle.roots.specs.Sqrt.{sqrt, roundRoot, nearRoot, isqrt, rootDigits}
-use Rattle.envelope.specs.Levels.{hop, squares, level, quietRow}
-use Rattle.pieces.specs.Pieces.{cut, searched, searchTurn}
-use Rattle.loops.specs.Loops.{equal, same, copiesEnd, isLoop, loopTurn, pass, collapseLoops}
-use Rattle.ends.specs.Ends.{nextStart, isPair, pairStart, pairEdge, pairOf, lastLoud, soundEnd, reach, orDuration, trimmed, endOf, setPair, endTurn, snapEnds}
+use Rattle.levels.specs.Levels.{hop, squares, level}
+use Rattle.envelope.specs.Levels.{quietRow}
+use Rattle.cut_cases.proofs.Computed.{all-quiet, none-quiet, first-quiet, last-quiet}
+use Rattle.copies.specs.Loops.{equal, same, copiesEnd, isLoop}
+use Rattle.passes.specs.Loops.{loopTurn, pass, collapseLoops}
+use Rattle.sounds.specs.Ends.{lastLoud, soundEnd}
+use Rattle.word_end.specs.Ends.{nextStart, isPair, pairStart, pairEdge, pairOf, reach, orDuration, trimmed, endOf}
+use Rattle.ends.specs.Ends.{setPair, endTurn, snapEnds}
 use Rattle.share.specs.Share as shares
+use Rattle.inside.specs.Spread as insides
+use Rattle.spreads.specs.Spread as spreads
 use Rattle.spread.specs.Spread as phrases
+use Rattle.stretches.specs.Even as stretches
 use Rattle.even.specs.Even as even
-use Rattle.cases.specs.Table.{Table, Sentences, double, quietFrames, keysLeft}
+use Rattle.cases.specs.Table.{Table, Sentences, double, keysLeft}
 
 level-of-half : level (replicate 160 (double false 1 2)) ≡ double false 1 2
 unfolding level squares fold sqrt roundRoot nearRoot isqrt rootDigits add sum mul div round size span climb units odd ofFields ofBits trailingZeros
 level-of-half = refl
-
-all-quiet : cut (quietFrames 0 2001) 0 ≡ 1599
-unfolding cut searched searchTurn each
-all-quiet = refl
-
-none-quiet : cut (quietFrames 0 0) 0 ≡ 2000
-unfolding cut searched searchTurn each
-none-quiet = refl
-
-first-quiet : cut (quietFrames 1200 8) 0 ≡ 1203
-unfolding cut searched searchTurn each
-first-quiet = refl
-
-last-quiet : cut (quietFrames 1992 8) 0 ≡ 1995
-unfolding cut searched searchTurn each
-last-quiet = refl
 
 three-copies : keysLeft (1 ∷ 1 ∷ 1 ∷ 2 ∷ []) ≡ 1 ∷ 2 ∷ []
 unfolding collapseLoops pass loopTurn isLoop copiesEnd same equal each run
@@ -78,5 +69,5 @@ table = record {
 }
 
 pub sentences : Sentences
-unfolding phrases.placeGroup phrases.spread phrases.inside phrases.firstInside phrases.lastInside phrases.spreadBefore phrases.spreadAfter phrases.betweenTurn phrases.placeBetween even.evenOut even.evenTurn even.evenRun even.stretchOf even.endOf even.borrowed even.borrows even.ceilingOf even.grown even.grows even.lastCrushed even.withSwollen even.firstCrushed even.swollen even.crushed even.sum shares.share shares.sum partEdges onPart each fold up down jsMin jsMax under isNan add sub neg sum mul div lt le eq ofInt round size span climb units odd ofBits ofFields trailingZeros
+unfolding phrases.placeGroup spreads.spread insides.inside insides.firstInside insides.lastInside spreads.spreadBefore spreads.spreadAfter phrases.betweenTurn phrases.placeBetween even.evenOut even.evenTurn even.evenRun stretches.stretchOf stretches.endOf stretches.borrowed stretches.borrows stretches.ceilingOf stretches.grown stretches.grows stretches.lastCrushed stretches.withSwollen stretches.firstCrushed stretches.swollen stretches.crushed stretches.sum shares.share shares.sum partEdges onPart each fold up down jsMin jsMax under isNan add sub neg sum mul div lt le eq ofInt round size span climb units odd ofBits ofFields trailingZeros
 sentences = record { spread-over-the-span = refl; span-reversed = refl; last-end-kept = refl }

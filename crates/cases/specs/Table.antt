@@ -1,16 +1,18 @@
 -- The table of document 01's cases marked ●, each as it stands there, and examples for sentences without one. Assumes nothing.
-use Prim.Native.Nat.{ℕ, _+_, _-_, _*_}
+use Prim.Native.Nat.{ℕ, _*_}
 use mathlib.Core.Bool.{Bool, true, false}
 use mathlib.Core.Path.{_≡_}
 use lib.IntN.{pos}
 use lib.Ieee.{Float, fin, binary64, round}
-use mathlib.Core.List.{List, [], _∷_, _++_}
+use mathlib.Core.List.{List, [], _∷_}
 use lib.ListN.{replicate}
 use Rattle.base.specs.Words.{words, edges}
 use Rattle.js.specs.Js.{jsToFixed}
-use Rattle.envelope.specs.Levels.{hop, level, quietRow}
-use Rattle.pieces.specs.Pieces.{cut}
-use Rattle.loops.specs.Loops.{collapseLoops}
+use Rattle.levels.specs.Levels.{hop, level}
+use Rattle.envelope.specs.Levels.{quietRow}
+use Rattle.cuts.specs.Pieces.{cut}
+use Rattle.cut_cases.specs.Frames.{quietFrames}
+use Rattle.passes.specs.Loops.{collapseLoops}
 use Rattle.ends.specs.Ends.{snapEnds}
 use Rattle.spread.specs.Spread.{placeGroup}
 use Rattle.even.specs.Even.{evenOut}
@@ -21,10 +23,6 @@ double negative n d = round binary64 negative n d
 
 abbrev pub zero : Bool → Float
 zero negative = fin negative 0 (pos 0)
-
--- ---- 2,001 frames, of which n from frame a on are quiet.
-abbrev pub quietFrames : ℕ → ℕ → List Bool
-quietFrames a n = replicate a false ++ (replicate n true ++ replicate (2001 - (a + n)) false)
 
 -- ---- The keys that are left of a list of words, of which only the keys count.
 abbrev pub keysLeft : List ℕ → List ℕ

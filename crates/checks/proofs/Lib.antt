@@ -1,3 +1,2 @@
 -- Laws of the tests behind the refusals.
 pub mod Any
-pub mod Finite

@@ -1,4 +1,3 @@
--- The limits of document 01, the tests behind its refusals, and their order.
+-- The limits of document 01 on lists, and the order of the tests.
 pub mod Limits
 pub mod Order
-pub mod Parts

@@ -1,6 +1,4 @@
--- Laws of words' ends: the search for the last loud frame, for the first, and one word's turn.
-mod Sound
-mod Rise
+-- Laws of words' ends: one word's turn, and the call.
 pub mod Turns
 pub mod Calls
 mod Witnesses

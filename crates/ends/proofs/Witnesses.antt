@@ -14,11 +14,14 @@ use Rattle.base.specs.declared.Refusal.the-variants.{Time, Letters, Lengths, Co
 use Rattle.js.specs.Js.{under, jsMin, jsMax, jsToFixed, nearestUp}
 use Rattle.frames.specs.Frames.{floorI64, frameAt, frameSeconds}
 use Rattle.envelope.specs.Levels.{loudRow}
-use Rattle.checks.specs.Limits.{any, timeOf}
+use Rattle.time_tests.specs.Limits.{timeOf}
+use Rattle.checks.specs.Limits.{any}
 use Rattle.checks.specs.Order.{inOrder, chain}
 use Rattle.calls.specs.Calls.{uneven, ofWords, withLevels, withTime, timedRule, output}
 use Rattle.checks.specs.declared.Answer.the-variants.{Accepted, Refused}
-use Rattle.ends.specs.Ends.{nextStart, isPair, pairStart, pairEdge, pairOf, lastLoud, soundEnd, reach, orDuration, trimmed, endOf, setPair, endTurn, snapEnds, endsCall}
+use Rattle.sounds.specs.Ends.{lastLoud, soundEnd}
+use Rattle.word_end.specs.Ends.{nextStart, isPair, pairStart, pairEdge, pairOf, reach, orDuration, trimmed, endOf}
+use Rattle.ends.specs.Ends.{setPair, endTurn, snapEnds, endsCall}
 
 -- so many hundredths of a second
 abbrev time : ℕ → Float

@@ -1,3 +1,2 @@
 -- Ends moved to where the sound stops.
 pub mod Ends
-pub mod Parts

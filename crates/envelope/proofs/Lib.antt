@@ -1,7 +1,7 @@
--- Laws of levels, of the floor and of loud frames, and the calls in plain words.
-pub mod Places
+-- Laws of loud frames, and the calls in plain words.
+pub mod Answers
 pub mod Limits
-pub mod Floors
+pub mod Loudness
 pub mod Promises
 pub mod Walks
 mod Witnesses

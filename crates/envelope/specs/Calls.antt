@@ -1,15 +1,14 @@
 -- What the public calls of `envelope` answer and leave. Assumes nothing.
-use mathlib.Core.Bool.{Bool, cond, not, _&&_}
 use mathlib.Core.List.{List, [], _∷_, _++_}
 use lib.ListN.{length, drop}
-use lib.Dec.{eqb}
-use lib.Ieee.{Float, binary64, isNan, toBits}
+use lib.Ieee.{Float}
 use Rattle.base.specs.Refusals.{Test, test, first}
 use Rattle.base.specs.declared.Refusal.the-variants.{Counts, Places}
 use Rattle.base.specs.declared.Rule.{Rule}
 use Rattle.base.specs.declared.Rule.the-variants.{Fine, Breaks}
-use Rattle.checks.specs.Limits.{manySamples, fewPlaces}
-use Rattle.envelope.specs.Levels.{frames, levels, floor}
+use Rattle.size_tests.specs.Limits.{manySamples, fewPlaces}
+use Rattle.levels.specs.Levels.{frames, levels}
+use Rattle.floors.specs.Floors.{floor}
 use Rattle.envelope.specs.declared.Answer.{Answer}
 use Rattle.envelope.specs.declared.Answer.the-variants.{Accepted, Refused}
 
@@ -35,11 +34,3 @@ byRule (Breaks r) samples places = output (Refused r) places
 
 unfoldable pub envelopeCall : List Float → List Float → Output
 envelopeCall samples places = byRule (first (tests samples places)) samples places
-
--- ---- Two numbers have the same bits; any NaN is like any other.
-abbrev pub alike : Float → Float → Bool
-alike x y = cond (isNan x) (isNan y) (not (isNan y) && eqb (toBits binary64 x) (toBits binary64 y))
-
--- ---- Whether a floor is the one that these levels give.
-unfoldable pub ownFloor : List Float → Float → Bool
-ownFloor ls f = alike (floor ls) f

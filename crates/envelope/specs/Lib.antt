@@ -1,4 +1,4 @@
--- Levels, the floor under them, and which frames are loud or quiet; the calls.
+-- Which frames are loud or quiet; the call.
 pub mod Levels
 pub mod Calls
 pub mod Parts

@@ -12,13 +12,15 @@ use Rattle.base.specs.Refusals.{first}
 use Rattle.base.specs.Words.{Words, words, partEdges, onPart}
 use Rattle.base.specs.declared.Refusal.the-variants.{Time, Letters, Lengths, Counts}
 use Rattle.js.specs.Js.{under, jsMin, jsMax}
-use Rattle.checks.specs.Limits.{any, timeOf, limitOf}
+use Rattle.time_tests.specs.Limits.{timeOf, limitOf}
+use Rattle.checks.specs.Limits.{any}
 use Rattle.checks.specs.Order.{inOrder, chain}
 use Rattle.calls.specs.Calls.{uneven, ofWords, withLimit, limitRule, output}
 use Rattle.checks.specs.declared.Answer.the-variants.{Accepted, Refused}
 use Rattle.share.specs.Share as shares
-use Rattle.even.specs.Even as even
-use Rattle.even.specs.Even.{crushed, swollen, firstCrushed, withSwollen, lastCrushed, grows, grown, ceilingOf, borrows, borrowed, endOf, stretchOf, evenRun, evenTurn, evenOut}
+use Rattle.stretches.specs.Even as stretches
+use Rattle.stretches.specs.Even.{crushed, swollen, firstCrushed, withSwollen, lastCrushed, grows, grown, ceilingOf, borrows, borrowed, endOf, stretchOf}
+use Rattle.even.specs.Even.{evenRun, evenTurn, evenOut}
 use Rattle.even.specs.Calls.{evenCall}
 
 -- n / 2 ^ k seconds, for an odd n
@@ -36,29 +38,29 @@ three s₀ e₀ s₁ e₁ s₂ e₂ = words (s₀ ∷ s₁ ∷ s₂ ∷ []) (e�
 -- the second word, of 1 / 16 s, takes the time up to the third
 fills-the-gap : evenCall (three (time 0 0) (time 1 2) (time 1 2) (time 5 4) (time 1 1) (time 1 0)) (inf false)
     ≡ output Accepted (three (time 0 0) (time 1 2) (time 1 2) (time 1 1) (time 1 1) (time 1 0))
-unfolding evenCall limitRule chain inOrder withLimit ofWords uneven first any timeOf limitOf evenOut evenTurn stretchOf evenRun crushed swollen firstCrushed withSwollen lastCrushed grows grown ceilingOf borrows borrowed endOf even.sum onPart partEdges shares.share shares.sum each fold down up jsMin jsMax under isNan add sub neg sum mul div lt le eq ofInt round size span climb units odd ofBits ofFields trailingZeros
+unfolding evenCall limitRule chain inOrder withLimit ofWords uneven first any timeOf limitOf evenOut evenTurn stretchOf evenRun crushed swollen firstCrushed withSwollen lastCrushed grows grown ceilingOf borrows borrowed endOf stretches.sum onPart partEdges shares.share shares.sum each fold down up jsMin jsMax under isNan add sub neg sum mul div lt le eq ofInt round size span climb units odd ofBits ofFields trailingZeros
 fills-the-gap = refl
 
 -- the word before it lasts 5 / 4 s, swollen: the two share its time
 takes-the-swollen : evenCall (three (time 0 0) (time 5 2) (time 5 2) (time 21 4) (time 3 1) (time 7 2)) (inf false)
     ≡ output Accepted (three (time 0 0) (time 21 5) (time 21 5) (time 21 4) (time 3 1) (time 7 2))
-unfolding evenCall limitRule chain inOrder withLimit ofWords uneven first any timeOf limitOf evenOut evenTurn stretchOf evenRun crushed swollen firstCrushed withSwollen lastCrushed grows grown ceilingOf borrows borrowed endOf even.sum onPart partEdges shares.share shares.sum each fold down up jsMin jsMax under isNan add sub neg sum mul div lt le eq ofInt round size span climb units odd ofBits ofFields trailingZeros
+unfolding evenCall limitRule chain inOrder withLimit ofWords uneven first any timeOf limitOf evenOut evenTurn stretchOf evenRun crushed swollen firstCrushed withSwollen lastCrushed grows grown ceilingOf borrows borrowed endOf stretches.sum onPart partEdges shares.share shares.sum each fold down up jsMin jsMax under isNan add sub neg sum mul div lt le eq ofInt round size span climb units odd ofBits ofFields trailingZeros
 takes-the-swollen = refl
 
 -- the third word starts 1 / 8 s after it, too soon for four letters: the two share the time up to the third's end
 takes-the-next : evenCall (three (time 0 0) (time 1 2) (time 1 2) (time 5 4) (time 3 3) (time 3 1)) (inf false)
     ≡ output Accepted (three (time 0 0) (time 1 2) (time 1 2) (time 7 3) (time 7 3) (time 3 1))
-unfolding evenCall limitRule chain inOrder withLimit ofWords uneven first any timeOf limitOf evenOut evenTurn stretchOf evenRun crushed swollen firstCrushed withSwollen lastCrushed grows grown ceilingOf borrows borrowed endOf even.sum onPart partEdges shares.share shares.sum each fold down up jsMin jsMax under isNan add sub neg sum mul div lt le eq ofInt round size span climb units odd ofBits ofFields trailingZeros
+unfolding evenCall limitRule chain inOrder withLimit ofWords uneven first any timeOf limitOf evenOut evenTurn stretchOf evenRun crushed swollen firstCrushed withSwollen lastCrushed grows grown ceilingOf borrows borrowed endOf stretches.sum onPart partEdges shares.share shares.sum each fold down up jsMin jsMax under isNan add sub neg sum mul div lt le eq ofInt round size span climb units odd ofBits ofFields trailingZeros
 takes-the-next = refl
 
 -- the last word has 1 / 8 s up to the limit, too little for four letters: it borrows from the word before it
 borrows-time : evenCall (two (time 0 0) (time 1 1) (time 1 1) (time 9 4)) (time 5 3) ≡ output Accepted (two (time 0 0) (time 5 4) (time 5 4) (time 5 3))
-unfolding evenCall limitRule chain inOrder withLimit ofWords uneven first any timeOf limitOf evenOut evenTurn stretchOf evenRun crushed swollen firstCrushed withSwollen lastCrushed grows grown ceilingOf borrows borrowed endOf even.sum onPart partEdges shares.share shares.sum each fold down up jsMin jsMax under isNan add sub neg sum mul div lt le eq ofInt round size span climb units odd ofBits ofFields trailingZeros
+unfolding evenCall limitRule chain inOrder withLimit ofWords uneven first any timeOf limitOf evenOut evenTurn stretchOf evenRun crushed swollen firstCrushed withSwollen lastCrushed grows grown ceilingOf borrows borrowed endOf stretches.sum onPart partEdges shares.share shares.sum each fold down up jsMin jsMax under isNan add sub neg sum mul div lt le eq ofInt round size span climb units odd ofBits ofFields trailingZeros
 borrows-time = refl
 
 -- both words end before they start, and the last end stays past the limit: they share the time from 1 s back to 1 / 2 s
 runs-backwards : evenCall (two (time 1 0) (time 3 2) (time 1 0) (time 1 1)) (time 1 2) ≡ output Accepted (two (time 1 0) (time 3 2) (time 3 2) (time 1 1))
-unfolding evenCall limitRule chain inOrder withLimit ofWords uneven first any timeOf limitOf evenOut evenTurn stretchOf evenRun crushed swollen firstCrushed withSwollen lastCrushed grows grown ceilingOf borrows borrowed endOf even.sum onPart partEdges shares.share shares.sum each fold down up jsMin jsMax under isNan add sub neg sum mul div lt le eq ofInt round size span climb units odd ofBits ofFields trailingZeros
+unfolding evenCall limitRule chain inOrder withLimit ofWords uneven first any timeOf limitOf evenOut evenTurn stretchOf evenRun crushed swollen firstCrushed withSwollen lastCrushed grows grown ceilingOf borrows borrowed endOf stretches.sum onPart partEdges shares.share shares.sum each fold down up jsMin jsMax under isNan add sub neg sum mul div lt le eq ofInt round size span climb units odd ofBits ofFields trailingZeros
 runs-backwards = refl
 
 refuses-3 : let ws = words (time 0 0 ∷ []) [] [] [] [] in evenCall ws (inf false) ≡ output (Refused Lengths) ws

@@ -12,7 +12,7 @@ use lib.Pow.{pow-mono}
 use lib.Ieee.{Float, Format, binary64, mul, div, fits, ofBits}
 use Rattle.base.specs.Loop.{fold}
 use Rattle.base.proofs.Values.{whole-value}
-use Rattle.envelope.specs.Levels.{hop, hopF, zeroF, plusSquare, squares, level, frames, frame, levels}
+use Rattle.levels.specs.Levels.{hop, hopF, zeroF, plusSquare, squares, level, frames, frame, levels}
 use Rattle.invariance.specs.Scaled.{Pairwise, none, next}
 use Rattle.invariance.proofs.Twin.{Holds, Twin, Between, twin-add, twin-div, twin-root}
 use Rattle.invariance.proofs.Lists.{pairwise-length, pairwise-take, pairwise-drop, pairwise-table}

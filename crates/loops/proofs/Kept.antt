@@ -9,8 +9,10 @@ use lib.Ieee.{nan}
 use Rattle.base.specs.Words.{Words, count}
 use Rattle.base.proofs.Loops.{each-holds}
 use Rattle.calls.proofs.Within.{Within, WordsWithin}
-use Rattle.loops.specs.Loops.{maxRun, drained, drain, collapseLoops}
-use Rattle.loops.specs.Parts.{goesOn, turnWords, passWords, loopWords}
+use Rattle.copies.specs.Loops.{maxRun, drained, drain}
+use Rattle.passes.specs.Loops.{collapseLoops}
+use Rattle.copies.specs.Parts.{goesOn}
+use Rattle.passes.specs.Parts.{turnWords, passWords, loopWords}
 use Rattle.loops.proofs.Found.{loops-words, never-more}
 use Rattle.loops.proofs.Whole.{left-even}
 

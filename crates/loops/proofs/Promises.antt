@@ -16,7 +16,7 @@ use Rattle.checks.specs.Order.{inOrder, chain}
 use Rattle.calls.specs.Calls.{ofWords}
 use Rattle.calls.proofs.Within.{WordsWithin, words-exactly}
 use Rattle.loops.specs.declared.Answer.the-variants.{Accepted, Refused}
-use Rattle.loops.specs.Loops.{collapseLoops}
+use Rattle.passes.specs.Loops.{collapseLoops}
 use Rattle.loops.specs.Calls.{Output, accepted, byRule, collapseCall}
 use Rattle.loops.proofs.Whole.{left-even, first-places}
 use Rattle.loops.proofs.Rules.{fine-even}

@@ -14,9 +14,10 @@ use Rattle.calls.specs.Calls.{ofWords}
 use Rattle.calls.proofs.Within.{words-exactly, one-length}
 use Rattle.loops.specs.declared.Left.{Left}
 use Rattle.loops.specs.declared.Answer.the-variants.{Accepted, Refused}
-use Rattle.loops.specs.Loops.{collapseLoops}
+use Rattle.passes.specs.Loops.{collapseLoops}
 use Rattle.loops.specs.Calls.{Output, output, accepted, collapseCall}
-use Rattle.loops.specs.Parts.{loopWords, Collapsing}
+use Rattle.passes.specs.Parts.{loopWords}
+use Rattle.loops.specs.Parts.{Collapsing}
 use Rattle.loops.proofs.Found.{loops-words, found-fewer}
 
 -- ---- what the core leaves, from the passes and the places made zero

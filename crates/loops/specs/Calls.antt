@@ -5,7 +5,7 @@ use Rattle.base.specs.declared.Rule.{Rule}
 use Rattle.base.specs.declared.Rule.the-variants.{Fine, Breaks}
 use Rattle.checks.specs.Order.{chain}
 use Rattle.calls.specs.Calls.{ofWords}
-use Rattle.loops.specs.Loops.{Collapsed, collapseLoops}
+use Rattle.passes.specs.Loops.{Collapsed, collapseLoops}
 use Rattle.loops.specs.declared.Answer.{Answer}
 use Rattle.loops.specs.declared.Answer.the-variants.{Accepted, Refused}
 

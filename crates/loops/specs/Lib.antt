@@ -1,4 +1,3 @@
 -- Loops collapsed to their first copy.
-pub mod Loops
 pub mod Calls
 pub mod Parts

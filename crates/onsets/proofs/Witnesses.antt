@@ -14,7 +14,8 @@ use Rattle.base.specs.declared.Refusal.the-variants.{Time, Letters, Lengths, Co
 use Rattle.js.specs.Js.{under, jsMin}
 use Rattle.frames.specs.Frames.{floorI64, ceilI64, frameAt, frameCeil, frameSeconds}
 use Rattle.envelope.specs.Levels.{loudRow}
-use Rattle.checks.specs.Limits.{any, timeOf}
+use Rattle.time_tests.specs.Limits.{timeOf}
+use Rattle.checks.specs.Limits.{any}
 use Rattle.checks.specs.Order.{inOrder, chain}
 use Rattle.calls.specs.Calls.{uneven, ofWords, withLevels, soundRule, output}
 use Rattle.checks.specs.declared.Answer.the-variants.{Accepted, Refused}

@@ -12,12 +12,12 @@ use lib.Ieee.{nan}
 use Rattle.base.specs.Words.{Words, Spans, count, inPlaces, zeroF, wordsInPlaces}
 use Rattle.calls.proofs.Within.{one-length}
 use Rattle.share.specs.Share.{sum}
-use Rattle.spread.specs.Spread.{inside}
-use Rattle.phrase_align.specs.PhraseAlign.{alignPhrases, inTheirPlaces}
+use Rattle.inside.specs.Spread.{inside}
+use Rattle.phrases.specs.PhraseAlign.{alignPhrases, inTheirPlaces}
 use Rattle.phrase_align.specs.Calls.{alignCall}
 use Rattle.phrase_align.specs.declared.Answer.the-variants.{Accepted}
 use Rattle.phrase_align.proofs.Calls.{accepted-answer}
-use Rattle.phrase_align.proofs.Facts.{wordTimes, PlacedWord, placed-after, count-least}
+use Rattle.phrases.proofs.Facts.{wordTimes, PlacedWord, placed-after, count-least}
 
 module _ (ws : Words) (spans : Spans) (phrases : List ℕ) (n : ℕ) (says : alignCall ws spans phrases .answer ≡ Accepted n) where
   -- ---- "The new count is given back."

@@ -16,7 +16,7 @@ use Rattle.calls.specs.Calls.{spansRule}
 use Rattle.checks.specs.declared.Applies.{Applies}
 use Rattle.calls.proofs.Within.{WordsWithin, SpansWithin}
 use Rattle.calls.proofs.Moved.{spansApplies, within-spans, spans-fine}
-use Rattle.phrase_align.specs.PhraseAlign.{alignPhrases}
+use Rattle.phrases.specs.PhraseAlign.{alignPhrases}
 use Rattle.phrase_align.specs.Calls.{Output, output, accepted, byRule, alignCall}
 use Rattle.phrase_align.specs.declared.Answer.the-variants.{Accepted, Refused}
 

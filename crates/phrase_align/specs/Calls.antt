@@ -6,7 +6,7 @@ use Rattle.base.specs.Words.{Words, Spans, count}
 use Rattle.base.specs.declared.Rule.{Rule}
 use Rattle.base.specs.declared.Rule.the-variants.{Fine, Breaks}
 use Rattle.calls.specs.Calls.{spansRule}
-use Rattle.phrase_align.specs.PhraseAlign.{Placing, alignPhrases, inTheirPlaces}
+use Rattle.phrases.specs.PhraseAlign.{Placing, alignPhrases, inTheirPlaces}
 use Rattle.phrase_align.specs.declared.Answer.{Answer}
 use Rattle.phrase_align.specs.declared.Answer.the-variants.{Accepted, Refused}
 

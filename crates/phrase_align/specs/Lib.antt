@@ -1,4 +1,2 @@
 -- Words placed in the spans of their phrases.
-pub mod PhraseAlign
 pub mod Calls
-pub mod Parts

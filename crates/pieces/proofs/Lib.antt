@@ -1,6 +1,4 @@
 -- Laws of the pieces.
-pub mod Cuts
-pub mod Parts
 pub mod Walk
 pub mod Passes
 pub mod Rules

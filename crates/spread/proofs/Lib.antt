@@ -1,5 +1,4 @@
 -- Laws of the words of one phrase.
-pub mod Inside
 pub mod Around
 pub mod Long
 pub mod Untouched

@@ -1,6 +1,4 @@
 -- Laws of hand_back_tails.
-pub mod Searches
-pub mod Long
 pub mod Turns
 pub mod Calls
 mod Witnesses

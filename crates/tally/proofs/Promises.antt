@@ -17,7 +17,8 @@ use Rattle.base.specs.declared.Refusal.{Refusal}
 use Rattle.base.specs.declared.Refusal.the-variants.{Counts, Time}
 use Rattle.base.specs.declared.Rule.the-variants.{Fine, Breaks}
 use Rattle.base.proofs.First.{first-here, first-skip, first-end}
-use Rattle.checks.specs.Limits.{badTime, manySamples}
+use Rattle.size_tests.specs.Limits.{manySamples}
+use Rattle.time_tests.specs.Limits.{badTime}
 use Rattle.calls.proofs.Within.{Within, within-fine, fine-within}
 use Rattle.frames.specs.Frames.{rate, floorI64, ceilI64}
 use Rattle.tally.specs.Peak.{wordPeak, tests, peakCall}

@@ -12,7 +12,8 @@ use Rattle.base.specs.declared.Rule.{Rule}
 use Rattle.base.specs.declared.Rule.the-variants.{Fine, Breaks}
 use Rattle.js.specs.Js.{jsMax}
 use Rattle.frames.specs.Frames.{rate, floorI64, ceilI64}
-use Rattle.checks.specs.Limits.{manySamples, badTime}
+use Rattle.size_tests.specs.Limits.{manySamples}
+use Rattle.time_tests.specs.Limits.{badTime}
 use Rattle.tally.specs.declared.Level.{Level}
 use Rattle.tally.specs.declared.Level.the-variants.{Accepted, Refused}
 

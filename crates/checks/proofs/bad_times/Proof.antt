@@ -5,7 +5,8 @@ use mathlib.Core.Path.{_≡_, refl, sym, _∙_}
 use lib.ListN.{length, drop}
 use lib.Ieee.{nan}
 use borrow.Author.Needs.{needs}
-use Rattle.checks.specs.Limits.{any, badTime}
+use Rattle.time_tests.specs.Limits.{badTime}
+use Rattle.checks.specs.Limits.{any}
 use Rattle.checks.proofs.Any.{any-next, any-stop, any-done}
 use Rattle.checks.proofs.bad_times.Statement.{statement}
 use Rattle.checks.proofs.bad_times.Tie as tie

@@ -2,7 +2,8 @@
 use borrow.Author.Needs.{needs}
 use mathlib.Core.Path.{sym, _∙_}
 use native.Mathlib.Omega.{arith}
-use Rattle.ends.proofs.Turns.{pair-in, turn-pair, turn-end}
+use Rattle.word_end.proofs.OneWord.{pair-in}
+use Rattle.ends.proofs.Turns.{turn-pair, turn-end}
 use Rattle.ends.proofs.snap_end.Statement.{statement}
 use Rattle.ends.proofs.snap_end.Tie as tie
 

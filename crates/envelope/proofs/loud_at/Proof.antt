@@ -1,7 +1,7 @@
 -- `envelope::loud_at` meets its contract. Assumes nothing.
 use native.Mathlib.Omega.{arith}
 use mathlib.Core.Path.{sym}
-use Rattle.envelope.proofs.Floors.{loud-level, loud-outside}
+use Rattle.envelope.proofs.Loudness.{loud-level, loud-outside}
 use Rattle.envelope.proofs.loud_at.Statement.{statement}
 use Rattle.envelope.proofs.loud_at.Tie as tie
 

@@ -2,7 +2,7 @@
 use native.Mathlib.Omega.{arith}
 use mathlib.Core.Path.{refl, _∙_}
 use native.Mathlib.Nat.{le-trans, le-of-eq}
-use Rattle.phrase_align.proofs.Joined.{placed-made}
+use Rattle.phrase_align.proofs.Made.{placed-made}
 use Rattle.phrase_align.proofs.place_words.Statement.{statement}
 use Rattle.phrase_align.proofs.place_words.Tie as tie
 

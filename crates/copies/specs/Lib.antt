@@ -1,0 +1,3 @@
+-- Copies of a run of keys.
+pub mod Loops
+pub mod Parts

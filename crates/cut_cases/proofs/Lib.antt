@@ -1,0 +1,2 @@
+-- The cuts, computed.
+pub mod Computed

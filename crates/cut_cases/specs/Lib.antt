@@ -1,0 +1,2 @@
+-- Recordings of 2,001 frames.
+pub mod Frames

@@ -1,0 +1,3 @@
+-- Laws of cuts.
+pub mod Cuts
+pub mod Parts

@@ -1,0 +1,3 @@
+-- Where a piece is cut.
+pub mod Pieces
+pub mod Parts

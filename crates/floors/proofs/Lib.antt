@@ -1,0 +1,2 @@
+-- Laws of the floor.
+pub mod Floors

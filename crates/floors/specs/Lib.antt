@@ -1,0 +1,2 @@
+-- The floor under levels.
+pub mod Floors

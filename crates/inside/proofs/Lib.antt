@@ -1,0 +1,2 @@
+-- Laws of words inside a span.
+pub mod Inside

@@ -1,0 +1,2 @@
+-- Words inside a span.
+pub mod Spread

@@ -1,0 +1,18 @@
+-- `levels::level` meets its contract. Assumes nothing.
+use native.Mathlib.Omega.{arith}
+use Rattle.levels.specs.Levels.{level}
+use Rattle.levels.proofs.level.Statement.{statement}
+use Rattle.levels.proofs.level.Tie as tie
+
+squares-requires : tie.Need-squares-requires
+squares-requires c κs = omega arith
+
+sqrt-requires : tie.Need-sqrt-requires
+sqrt-requires c κs = omega arith
+
+returns : tie.Need-returns
+unfolding level
+returns c = cc
+
+pub level-spec : {M : Type 1} → statement M
+level-spec = tie.close (tie.spec squares-requires sqrt-requires returns)

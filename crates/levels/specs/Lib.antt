@@ -1,0 +1,2 @@
+-- The levels of a recording.
+pub mod Levels

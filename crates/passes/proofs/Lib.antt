@@ -1,0 +1,2 @@
+-- Laws of the passes.
+pub mod InPlace

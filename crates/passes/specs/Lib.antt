@@ -1,0 +1,3 @@
+-- Loops collapsed to their first copy, and the words in their places meanwhile.
+pub mod Loops
+pub mod Parts

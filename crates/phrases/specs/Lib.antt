@@ -1,0 +1,3 @@
+-- Words placed in the spans of their phrases.
+pub mod PhraseAlign
+pub mod Parts

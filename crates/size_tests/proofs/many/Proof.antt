@@ -1,0 +1,10 @@
+-- `size_tests::many` meets its contract. Assumes nothing.
+use mathlib.Core.Path.{refl}
+use Rattle.size_tests.proofs.many.Statement.{statement}
+use Rattle.size_tests.proofs.many.Tie as tie
+
+returns : tie.Need-returns
+returns c = refl
+
+pub many-spec : {M : Type 1} → statement M
+many-spec = tie.close (tie.spec returns)

@@ -1,0 +1,10 @@
+-- `size_tests::other_levels` meets its contract. Assumes nothing.
+use mathlib.Core.Path.{refl}
+use Rattle.size_tests.proofs.other_levels.Statement.{statement}
+use Rattle.size_tests.proofs.other_levels.Tie as tie
+
+returns : tie.Need-returns
+returns c = refl
+
+pub other-levels-spec : {M : Type 1} → statement M
+other-levels-spec = tie.close (tie.spec returns)

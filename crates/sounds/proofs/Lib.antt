@@ -1,0 +1,2 @@
+-- Laws of the search for the last loud frame.
+pub mod Sound

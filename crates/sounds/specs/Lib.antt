@@ -1,0 +1,3 @@
+-- Where a sound ends.
+pub mod Ends
+pub mod Parts

@@ -1,0 +1,2 @@
+-- Laws of spreads.
+pub mod Sides

@@ -1,0 +1,2 @@
+-- Spreads of words.
+pub mod Spread

@@ -1,0 +1,2 @@
+-- Laws of the run of a crushed word.
+pub mod Runs

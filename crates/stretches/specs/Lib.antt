@@ -1,0 +1,2 @@
+-- The run of a crushed word.
+pub mod Even

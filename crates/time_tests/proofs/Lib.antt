@@ -1,0 +1,2 @@
+-- Laws of the test of a time.
+pub mod Finite

@@ -1,0 +1,3 @@
+-- The limits of document 01 on times.
+pub mod Parts
+pub mod Limits

@@ -1,0 +1,3 @@
+-- One word's times, by the sound.
+pub mod Ends
+pub mod Parts

@@ -1,0 +1,3 @@
+-- What one word hands back.
+pub mod Parts
+pub mod Tails
