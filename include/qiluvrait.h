@@ -8,9 +8,10 @@
  *
  * A call that can refuse answers a refusal: 0 where it accepts, else document 01's number, and then
  * lent memory keeps its bits. Here: 1 a time outside its range, 2 letters or units outside theirs,
- * 3 lists of words or of spans that differ in length, 4 too many samples, words or spans, or too large
- * a span count, 6 too few places, 7 a number of levels that isn't samples / 160, rounded down. Where
- * several apply, the first of 3, 4, 1, 2, 7, 6.
+ * 3 lists of words, with their phrase numbers where those are taken, or of spans that differ in length,
+ * 4 too many samples, words or spans, or too large a span count, 6 too few places for the result or work
+ * space, 7 a number of levels that isn't samples / 160, rounded down. Where several apply, the first of
+ * 3, 4, 1, 2, 7, 6.
  *
  * Times are in seconds. A frame is 160 samples at 16,000 samples a second: 10 ms.
  */
@@ -224,6 +225,66 @@ struct qiluvrait_placed qiluvrait_align_phrases(double *starts, size_t starts_le
 uint32_t qiluvrait_even_out(double *starts, size_t starts_len, double *ends, size_t ends_len,
                             const uint32_t *letters, size_t letters_len, const uint32_t *units,
                             size_t units_len, const uint32_t *keys, size_t keys_len, double limit);
+
+/*
+ * What qiluvrait_last_run answers: found is 1 where there is sound, and start and end are its times; 0 and
+ * zeros where there is none, or where it refuses.
+ */
+struct qiluvrait_run {
+    uint32_t refusal;
+    uint32_t found;
+    double start;
+    double end;
+};
+
+/*
+ * The last run of sound between two times: the frames from that of `from` to before that of `to`, both from
+ * zero. It ends with the last loud frame, and goes back over pauses of up to 15 quiet frames; 16 stop it. No
+ * sound is found exactly where no loud frame is there, or the last frame of the run lies fewer than 3 frames
+ * behind its first. Refusals: 4, 1, 7; both times are among the times for 1.
+ */
+struct qiluvrait_run qiluvrait_last_run(const double *levels, size_t levels_len, double floor, size_t count,
+                                        double from, double to);
+
+/*
+ * Fits words to their sound. Starts are put in order, 0.02 s apart at the least, and ends between the start
+ * and the duration. A word that starts in silence starts where three frames in a row are loud, searched up to
+ * 1.5 s ahead and to 0.05 s before the next word, and keeps at most 0.5 s of its length. No word runs into
+ * the next one. Crushed words are evened (qiluvrait_even_out) without a limit. Then each word's sound is
+ * searched from its start to the next word's start, or to the duration: it ends before 15 quiet frames. An
+ * end that lies more than 0.05 s past it is cut back, where that leaves the word 0.05 s for each letter, or
+ * 0.3 s. A word lasts until the next one where no 15 quiet frames lie between, and the last one until its
+ * sound's end. Crushed words are evened again, with the duration as limit. The duration, in seconds, is among
+ * the times for refusal 1. Answers 0 where it accepts, else the refusal: 3, 4, 1, 2 or 7. Writes starts and
+ * ends.
+ */
+uint32_t qiluvrait_fit_to_sound(double *starts, size_t starts_len, double *ends, size_t ends_len,
+                                const uint32_t *letters, size_t letters_len, const uint32_t *units,
+                                size_t units_len, const uint32_t *keys, size_t keys_len,
+                                const double *levels, size_t levels_len, double floor, size_t count,
+                                double duration);
+
+/*
+ * Fits words to their sound, phrase by phrase. Word i is one of phrase phrases[i], whose span stands at that
+ * place of the spans; a word whose number has no span stays as it is. The words of a phrase are fitted
+ * (qiluvrait_fit_to_sound) with the sooner of count / 16000 and the span's end as duration, and kept inside
+ * the span, 0.04 s long at the least. A last run of sound that starts more than 0.15 s after the last word,
+ * before the span's end, becomes the last word's. Then the phrase's words are evened, with the span's end as
+ * limit. A span under 0.04 s puts starts at its end minus 0.04, before its own start. Nothing of a phrase
+ * depends on another phrase's words or span. Needs three lists of work space, each as long as the words; what
+ * they hold afterwards is free, and after a refusal they are as they were. A phrase list of another length
+ * than the words is refusal 3. Answers 0 where it accepts, else the refusal: 3, 4, 1, 2, 7 or 6. Writes starts
+ * and ends, and the work space.
+ */
+uint32_t qiluvrait_fit_file(double *starts, size_t starts_len, double *ends, size_t ends_len,
+                            const uint32_t *letters, size_t letters_len, const uint32_t *units,
+                            size_t units_len, const uint32_t *keys, size_t keys_len,
+                            const uint32_t *phrases, size_t phrases_len, const double *span_starts,
+                            size_t span_starts_len, const double *span_ends, size_t span_ends_len,
+                            const uint32_t *counts, size_t counts_len, const double *levels,
+                            size_t levels_len, double floor, size_t count, double *work_starts,
+                            size_t work_starts_len, double *work_ends, size_t work_ends_len,
+                            uint32_t *work_letters, size_t work_letters_len);
 
 #ifdef __cplusplus
 }

@@ -6,25 +6,32 @@ use crate::places::{Bits, Places};
 use crate::recordings::{HOP, MAX_SAMPLES};
 use crate::text::{Cue, Script};
 use crate::words::{
-    LAST, Lent, MAX_COUNT, MAX_LETTERS, MAX_SPANS, MAX_UNITS, MAX_WORDS, Spans, named, same, text,
+    LAST, Lent, MAX_COUNT, MAX_LETTERS, MAX_SPANS, MAX_UNITS, MAX_WORDS, Spans, Work, named, same,
+    text,
 };
 
-/// What a call is lent: words, spans, and places for the words' phrase numbers.
+/// What a call is lent: words, spans, places for the words' phrase numbers, these numbers, and work
+/// space.
 #[derive(Clone)]
 pub struct Loan {
     pub words: Lent,
     pub spans: Spans,
     pub phrases: Places<u32>,
+    pub numbers: Places<u32>,
+    pub work: Work,
 }
 
 impl Loan {
     /// What is wrong with what was lent, which should be as it was.
     pub fn stay(&self, before: &Loan) -> Option<String> {
         let phrases = || named("phrases", same(&self.phrases, &before.phrases));
+        let numbers = || named("numbers", same(&self.numbers, &before.numbers));
         let words = self.words.stay(&before.words);
         words
             .or_else(|| self.spans.stay(&before.spans))
             .or_else(phrases)
+            .or_else(numbers)
+            .or_else(|| self.work.stay(&before.work))
     }
 }
 
@@ -36,6 +43,9 @@ pub struct Given {
     pub count: usize,
     pub duration: f64,
     pub limit: f64,
+    /// The times of a last run's search.
+    pub from: f64,
+    pub to: f64,
 }
 
 impl Given {
@@ -47,6 +57,8 @@ impl Given {
             words: Lent::new(&words(n, random)),
             spans: Spans::new(&spans_of(spans, random)),
             phrases: Places::new(n + random.of(&[0, 0, 1, 5])),
+            numbers: numbers(n, spans, random),
+            work: Work::new([(); 3].map(|()| n + random.of(&[0, 0, 1, 5]))),
         };
         Given {
             loan,
@@ -55,6 +67,8 @@ impl Given {
             count: frames * HOP + random.of(&[0, 1, HOP - 1]),
             duration: random.of(&[0.0, frames as f64 / 100.0, LAST, -LAST]),
             limit: random.of(&[0.0, -0.0, 0.5, LAST, -LAST, f64::INFINITY]),
+            from: time(random),
+            to: time(random),
         }
     }
 }
@@ -63,6 +77,13 @@ impl Given {
 fn time(random: &mut Random) -> f64 {
     let any = random.below(1000) as f64 / 1000.0;
     random.of(&[any, any, LAST, -LAST, -0.0])
+}
+
+/// Phrase numbers, all of which are taken.
+fn numbers(n: usize, spans: usize, random: &mut Random) -> Places<u32> {
+    let list = [0, 1, spans as u32, u32::MAX];
+    let numbers: Vec<u32> = (0..n).map(|_| random.of(&list)).collect();
+    Places::holding(numbers.into_iter())
 }
 
 /// Spans that are taken, many of them at the limits.
@@ -103,6 +124,7 @@ pub const FAULTS: &[Fault] = &[
     all_marks_of_spans,
     |given, random| given.duration = no_time(random),
     |given, random| given.limit = no_limit(random),
+    bad_time_of_search,
     |given, random| {
         put(
             &mut given.loan.words.letters,
@@ -119,6 +141,8 @@ pub const FAULTS: &[Fault] = &[
     },
     other_levels,
     too_few_places,
+    another_length_of_numbers,
+    too_little_work,
 ];
 
 /// Another length than n.
@@ -163,6 +187,8 @@ fn resize<T: Bits>(list: &mut Places<T>, length: usize) {
 fn too_many_words(given: &mut Given, random: &mut Random) {
     let n = MAX_WORDS + 1;
     given.loan.phrases = Places::new(random.of(&[n, n, 0, MAX_WORDS]));
+    given.loan.numbers = numbers(random.of(&[n, n, n, MAX_WORDS]), 3, random);
+    given.loan.work = Work::new([(); 3].map(|()| random.of(&[n, n, 0, MAX_WORDS])));
     given.loan.words = if random.below(2) == 0 {
         Lent::new(&words(n, random))
     } else {
@@ -269,6 +295,12 @@ fn all_marks_of_spans(given: &mut Given, random: &mut Random) {
     put_marks(starts, ends, random);
 }
 
+/// One of the two times of a search that is none.
+fn bad_time_of_search(given: &mut Given, random: &mut Random) {
+    let bad = no_time(random);
+    *random.of_two(&mut given.from, &mut given.to) = bad;
+}
+
 /// One level more or fewer, or a sample too few or too many for the levels.
 fn other_levels(given: &mut Given, random: &mut Random) {
     let frames = given.levels.len();
@@ -284,4 +316,23 @@ fn other_levels(given: &mut Given, random: &mut Random) {
 fn too_few_places(given: &mut Given, random: &mut Random) {
     let fewer = given.loan.words.starts.lent().saturating_sub(1);
     given.loan.phrases = Places::new(random.of(&[fewer, fewer, 0]));
+}
+
+/// More phrase numbers than words, or fewer.
+fn another_length_of_numbers(given: &mut Given, random: &mut Random) {
+    let numbers = &mut given.loan.numbers;
+    let length = other_than(numbers.lent(), random);
+    resize(numbers, length);
+}
+
+/// Less work space than words, in one of the three lists or in each: a place less, or none.
+fn too_little_work(given: &mut Given, random: &mut Random) {
+    let n = given.loan.words.starts.lent();
+    let fewer = random.of(&[n.saturating_sub(1), n.saturating_sub(1), 0]);
+    let mut lengths = [n, n + 1, n];
+    match random.below(4) {
+        3 => lengths = [fewer; 3],
+        list => lengths[list as usize] = fewer,
+    }
+    given.loan.work = Work::new(lengths);
 }

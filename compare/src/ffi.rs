@@ -2,7 +2,7 @@
 
 use crate::places::Places;
 use crate::sounds::Sound;
-use crate::words::{Lent, Spans};
+use crate::words::{Lent, Spans, Work};
 
 /// The answer of an envelope.
 #[repr(C)]
@@ -40,6 +40,16 @@ pub struct Left {
 pub struct Placed {
     pub refusal: u32,
     pub count: usize,
+}
+
+/// The answer of the last run: whether there is sound, and its times.
+#[repr(C)]
+#[derive(Clone, Copy)]
+pub struct Run {
+    pub refusal: u32,
+    pub found: u32,
+    pub start: f64,
+    pub end: f64,
 }
 
 unsafe extern "C" {
@@ -163,6 +173,61 @@ unsafe extern "C" {
         phrases: *mut u32,
         n_phrases: usize,
     ) -> Placed;
+    fn qiluvrait_last_run(
+        levels: *const f64,
+        n_levels: usize,
+        floor: f64,
+        count: usize,
+        from: f64,
+        to: f64,
+    ) -> Run;
+    fn qiluvrait_fit_to_sound(
+        starts: *mut f64,
+        n_starts: usize,
+        ends: *mut f64,
+        n_ends: usize,
+        letters: *const u32,
+        n_letters: usize,
+        units: *const u32,
+        n_units: usize,
+        keys: *const u32,
+        n_keys: usize,
+        levels: *const f64,
+        n_levels: usize,
+        floor: f64,
+        count: usize,
+        duration: f64,
+    ) -> u32;
+    fn qiluvrait_fit_file(
+        starts: *mut f64,
+        n_starts: usize,
+        ends: *mut f64,
+        n_ends: usize,
+        letters: *const u32,
+        n_letters: usize,
+        units: *const u32,
+        n_units: usize,
+        keys: *const u32,
+        n_keys: usize,
+        phrases: *const u32,
+        n_phrases: usize,
+        span_starts: *const f64,
+        n_span_starts: usize,
+        span_ends: *const f64,
+        n_span_ends: usize,
+        counts: *const u32,
+        n_counts: usize,
+        levels: *const f64,
+        n_levels: usize,
+        floor: f64,
+        count: usize,
+        work_starts: *mut f64,
+        n_work_starts: usize,
+        work_ends: *mut f64,
+        n_work_ends: usize,
+        work_letters: *mut u32,
+        n_work_letters: usize,
+    ) -> u32;
 }
 
 pub fn envelope(samples: &[f32], levels: &mut Places) -> Heard {
@@ -286,5 +351,64 @@ pub fn align_phrases(words: &mut Lent, spans: &mut Spans, phrases: &mut Places<u
         counts.lent(),
         phrases.numbers(),
         phrases.lent()
+    )
+}
+
+pub fn last_run(over: Over, from: f64, to: f64) -> Run {
+    let (levels, n) = (over.levels.as_ptr(), over.levels.len());
+    // SAFETY: the levels are as many as is said.
+    unsafe { qiluvrait_last_run(levels, n, over.floor, over.count, from, to) }
+}
+
+pub fn fit_to_sound(words: &mut Lent, over: Over, duration: f64) -> u32 {
+    let (levels, n) = (over.levels.as_ptr(), over.levels.len());
+    let (floor, count) = (over.floor, over.count);
+    of_words!(
+        qiluvrait_fit_to_sound,
+        words,
+        levels,
+        n,
+        floor,
+        count,
+        duration
+    )
+}
+
+/// What fitting by phrase is lent beside the words: their phrase numbers, the spans, and work space.
+#[derive(Clone)]
+pub struct Grouped {
+    pub phrases: Places<u32>,
+    pub spans: Spans,
+    pub work: Work,
+}
+
+pub fn fit_file(words: &mut Lent, grouped: &mut Grouped, over: Over) -> u32 {
+    let (levels, n) = (over.levels.as_ptr(), over.levels.len());
+    let Grouped {
+        phrases,
+        spans,
+        work,
+    } = grouped;
+    of_words!(
+        qiluvrait_fit_file,
+        words,
+        phrases.numbers(),
+        phrases.lent(),
+        spans.starts.doubles(),
+        spans.starts.lent(),
+        spans.ends.doubles(),
+        spans.ends.lent(),
+        spans.counts.numbers(),
+        spans.counts.lent(),
+        levels,
+        n,
+        over.floor,
+        over.count,
+        work.starts.doubles(),
+        work.starts.lent(),
+        work.ends.doubles(),
+        work.ends.lent(),
+        work.letters.numbers(),
+        work.letters.lent()
     )
 }

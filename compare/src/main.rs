@@ -6,29 +6,45 @@ mod even;
 mod even_rule;
 mod faults;
 mod ffi;
+mod file_rule;
+mod filed;
+mod files;
+mod fit_rule;
+mod fit_times;
+mod fitted;
 mod heard;
 mod hour;
 mod inputs;
+mod locality;
 mod loops;
 mod numbers;
+mod pairs;
 mod peak;
 mod phrases;
 mod phrases_rule;
 mod pieces;
 mod places;
 mod planted;
+mod planted_fit;
+mod recorded;
 mod recordings;
 mod report;
 mod rows;
+mod run_rule;
+mod runs;
+mod scaled;
+mod scaling;
 mod sounds;
 mod spans;
 mod spoken;
 mod stages;
 mod times;
 mod vectors;
+mod vectors_fit;
 mod vectors_lists;
 mod words;
 mod words_alone;
+mod words_fit;
 mod words_hour;
 mod words_refused;
 
@@ -52,7 +68,8 @@ const USAGE: &str = "\
 usage: compare [CASES [NAME..]]    compare, CASES random cases of each function of numbers
                                    (10000000), and fewer of the others
        compare bench [RUNS]        time both sides, medians over RUNS runs (15; of an hour 5)
-       compare vectors             write the stored answers of words, the Rust's";
+       compare vectors             write the stored answers of words, the Rust's
+       compare fit-vectors         write those of last runs and of fitted words";
 
 fn all<T: Compared>(list: &'static [T]) -> impl Iterator<Item = &'static dyn Compared> {
     list.iter().map(|entry| entry as &dyn Compared)
@@ -67,7 +84,12 @@ fn entries() -> Vec<&'static dyn Compared> {
     let entries = entries.chain(all(stages::STAGES));
     let entries = entries.chain(all(&[phrases::Phrases]));
     let entries = entries.chain(all(&[even::Even]));
+    let entries = entries.chain(all(&[runs::LastRun]));
+    let entries = entries.chain(all(&[fitted::Fit]));
+    let entries = entries.chain(all(&[filed::ByPhrase]));
+    let entries = entries.chain(all(pairs::PAIRS));
     let entries = entries.chain(all(planted::PLANTED));
+    let entries = entries.chain(all(planted_fit::PLANTED));
     let entries = entries.chain(all(&[words_refused::Refused]));
     entries.collect()
 }
@@ -123,6 +145,10 @@ fn main() -> ExitCode {
         (None, _, _) => compare(CASES, &[]),
         (Some("vectors"), _, None) => {
             vectors::write();
+            ExitCode::SUCCESS
+        }
+        (Some("fit-vectors"), _, None) => {
+            vectors_fit::write();
             ExitCode::SUCCESS
         }
         (Some("bench"), _, None) => bench(None),

@@ -12,9 +12,9 @@ use crate::words::Lent;
 
 /// The wrong rules of a stage: their names, and the way to try each on a list that is drawn.
 pub struct Planted {
-    name: &'static str,
-    names: fn() -> Vec<String>,
-    judge: fn(&mut Random) -> Case,
+    pub name: &'static str,
+    pub names: fn() -> Vec<String>,
+    pub judge: fn(&mut Random) -> Case,
 }
 
 pub const PLANTED: &[Planted] = &[
@@ -187,12 +187,12 @@ const PHRASES: &[(&str, phrases_rule::Rule)] = {
 };
 
 /// The names of rules.
-fn names<T>(rules: &[(&str, T)]) -> Vec<String> {
+pub fn names<T>(rules: &[(&str, T)]) -> Vec<String> {
     rules.iter().map(|(name, _)| name.to_string()).collect()
 }
 
 /// Notes which of the wrong rules differ.
-fn noticed<T>(rules: &[(&str, T)], differs: impl Fn(&T) -> bool) -> Case {
+pub fn noticed<T>(rules: &[(&str, T)], differs: impl Fn(&T) -> bool) -> Case {
     let mut reached = Reached::default();
     for (at, (_, rule)) in rules.iter().enumerate() {
         reached.add(at, differs(rule));

@@ -95,6 +95,19 @@ impl Sound {
         Sound::new("bursts", loud, floor, random)
     }
 
+    /// Bursts with pauses of around 15 frames, over an ordinary floor.
+    pub fn pauses(frames: usize, random: &mut Random) -> Sound {
+        let loud = paused(frames, random);
+        let floor = random.of(&FLOORS[..ORDINARY]);
+        Sound::new("pauses", loud, floor, random)
+    }
+
+    /// A sound whose loud frames are known, over an ordinary floor.
+    pub fn given(loud: Vec<bool>, random: &mut Random) -> Sound {
+        let floor = random.of(&FLOORS[..ORDINARY]);
+        Sound::new("given", loud, floor, random)
+    }
+
     /// Each kind of sound over each floor.
     pub fn limits(frames: usize, random: &mut Random) -> Vec<Sound> {
         let mut sounds = Vec::new();
@@ -141,6 +154,24 @@ fn bursts(loud: &mut [bool], random: &mut Random) {
         let [few, some] = [5, 60].map(|n| 1 + random.below(n) as usize);
         at = end + random.of(&[6, 7, 7, 8, 8, 8, 9, 9, few, some]);
     }
+}
+
+/// So many frames: bursts of up to 5, 12 or 40, most of 1 to 5, with quiet runs between, of lengths
+/// around 15, where a word's sound ends, of a few frames, of up to 60, and of more than 1.5 s.
+pub fn paused(frames: usize, random: &mut Random) -> Vec<bool> {
+    let mut loud = vec![false; frames];
+    let longest = random.of(&[5, 5, 12, 12, 40]);
+    let mut at = random.of(&[0, 0, 0, 3, 15, 16, 40, 155]);
+    while at < frames {
+        let end = at + 1 + random.below(longest) as usize;
+        let end = end.min(frames);
+        loud[at..end].fill(true);
+        let [few, some] = [8, 60].map(|n| 1 + random.below(n) as usize);
+        let long = 145 + random.below(10) as usize;
+        at = end + random.of(&[13, 14, 14, 15, 15, 15, 16, 16, 17, few, few, some]);
+        at += if random.below(16) == 0 { long } else { 0 };
+    }
+    loud
 }
 
 /// Each frame is loud with the same chance.

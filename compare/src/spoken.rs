@@ -1,11 +1,12 @@
 //! Lists of words over a sound.
 
 use crate::check::HeardWord;
+use crate::fit_times;
 use crate::inputs::Random;
 use crate::recordings::{HOP, MAX_SAMPLES};
 use crate::sounds::Sound;
 use crate::times::{FAR, KINDS, Kind, LIMITS, SPEECH, anywhere_in, time};
-use crate::words::{LAST, MAX_WORDS, text};
+use crate::words::{LAST, MAX_WORDS, few_letters, text};
 
 /// Words, the sound that they lie over, and a duration.
 pub struct Spoken {
@@ -86,6 +87,43 @@ impl Spoken {
         }
         let sound = Sound::of_frames(MAX_SAMPLES / HOP, random);
         list.push(Spoken::new(SPEECH, MAX_WORDS, sound, random));
+        list
+    }
+
+    /// Words to be fitted: half of them of the kinds that fitting is about, over pauses.
+    pub fn to_fit(random: &mut Random) -> Spoken {
+        if random.below(2) == 0 {
+            return Spoken::random(SPEECH, random);
+        }
+        let most = random.of(&[20, 100, 320, 320, 320]);
+        let frames = random.below(most) as usize;
+        let sound = Sound::pauses(frames, random);
+        let some = how_many(random);
+        let bursts = some.min(sound.edges(true).len());
+        let n = match random.below(1 << 10) {
+            0 => random.of(&[1000, MAX_WORDS]),
+            _ => random.of(&[bursts, bursts, bursts, some]),
+        };
+        let own = random.of(fit_times::KINDS);
+        let any = random.of(KINDS);
+        let kind = random.of(&[own, own, own, any]);
+        let mut spoken = Spoken::new(kind, n, sound, random);
+        few_letters(&mut spoken.words, random);
+        spoken
+    }
+
+    /// The words to be fitted that are always compared: those above, each kind of fitting's own with
+    /// 0 to 5 words over short pauses, and with 4,096 over long ones.
+    pub fn limits_to_fit(random: &mut Random) -> Vec<Spoken> {
+        let mut list = Spoken::limits(random);
+        for &kind in fit_times::KINDS {
+            for n in (0..6).flat_map(|n| [n; 20]) {
+                let sound = Sound::pauses(10 * n + 30, random);
+                list.push(Spoken::new(kind, n, sound, random));
+            }
+            let sound = Sound::pauses(100_000, random);
+            list.push(Spoken::new(kind, MAX_WORDS, sound, random));
+        }
         list
     }
 }

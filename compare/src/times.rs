@@ -5,7 +5,7 @@ use crate::sounds::Sound;
 use crate::words::{LAST, near};
 
 /// A word's start and end.
-type Times = (f64, f64);
+pub type Times = (f64, f64);
 /// A way to draw the times of so many words over a sound.
 type Draw = fn(&Sound, usize, &mut Random) -> Vec<Times>;
 /// The name of a kind, and the way to draw it.
@@ -67,7 +67,7 @@ pub fn time(frame: i64, random: &mut Random) -> f64 {
 }
 
 /// From `least` to `most`, in frames.
-fn from_to(least: i64, most: i64, random: &mut Random) -> i64 {
+pub fn from_to(least: i64, most: i64, random: &mut Random) -> i64 {
     least + random.below((most - least + 1) as u64) as i64
 }
 
@@ -137,7 +137,7 @@ fn reversed(_: &Sound, n: usize, random: &mut Random) -> Vec<Times> {
 }
 
 /// Edges of the sound from any one on, and a few that are not, past them.
-fn edges(sound: &Sound, rises: bool, n: usize, random: &mut Random) -> Vec<i64> {
+pub fn edges(sound: &Sound, rises: bool, n: usize, random: &mut Random) -> Vec<i64> {
     let edges = sound.edges(rises);
     let from = random.below(edges.len() as u64 + 1) as usize;
     let from = random.of(&[0, 0, from]);

@@ -10,7 +10,7 @@ use crate::vectors_lists;
 /// Frames of a row's recording.
 const FRAMES: usize = 64;
 /// How long it is, in seconds.
-const DURATION: f64 = (FRAMES * HOP) as f64 / TRANSCRIPT_RATE as f64;
+pub const DURATION: f64 = (FRAMES * HOP) as f64 / TRANSCRIPT_RATE as f64;
 /// The most keys of a row.
 const KEYS: usize = 16;
 
@@ -32,7 +32,7 @@ const LOOPS: &[&str] = &[
 ];
 
 /// A word's start, and the bursts of sound: from a frame up to another.
-type Heard = (f64, &'static [(usize, usize)]);
+pub type Heard = (f64, &'static [(usize, usize)]);
 
 const ONSETS: &[Heard] = &[
     (-0.005, &[]),
@@ -93,7 +93,7 @@ const TAILS: &[Heard] = &[
 const PLANTED: Heard = (0.3, &[(20, 40)]);
 
 /// A word of so many letters.
-fn word(start: f64, end: f64, letters: u32) -> HeardWord {
+pub fn word(start: f64, end: f64, letters: u32) -> HeardWord {
     let (units, key) = (1, 1);
     let text = Text {
         letters,
@@ -123,7 +123,7 @@ pub fn row(kind: char, a: u64, b: u64, r: u64) {
 }
 
 /// A row of words over a recording: `answer` gives the time that the Rust moves.
-fn moved(kind: char, (start, bursts): Heard, answer: impl Fn(f64, &Envelope) -> u64) {
+pub fn moved(kind: char, (start, bursts): Heard, answer: impl Fn(f64, &Envelope) -> u64) {
     let levels = levels(bursts);
     row(kind, start.to_bits(), bits(&levels), answer(start, &levels));
 }

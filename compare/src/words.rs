@@ -90,6 +90,44 @@ impl Spans {
     }
 }
 
+/// Work space that is lent: three lists.
+#[derive(Clone)]
+pub struct Work {
+    pub starts: Places,
+    pub ends: Places,
+    pub letters: Places<u32>,
+}
+
+impl Work {
+    /// Lists of these lengths, with a mark in every place.
+    pub fn new([starts, ends, letters]: [usize; 3]) -> Work {
+        Work {
+            starts: Places::new(starts),
+            ends: Places::new(ends),
+            letters: Places::new(letters),
+        }
+    }
+
+    /// What is wrong past the lists. What they hold themselves is free.
+    pub fn stay_past(&self) -> Option<String> {
+        let Work {
+            starts,
+            ends,
+            letters,
+        } = self;
+        named("work starts", starts.stay(starts.lent()))
+            .or_else(|| named("work ends", ends.stay(ends.lent())))
+            .or_else(|| named("work letters", letters.stay(letters.lent())))
+    }
+
+    /// What is wrong with the lists, which should be as they were.
+    pub fn stay(&self, before: &Work) -> Option<String> {
+        named("work starts", same(&self.starts, &before.starts))
+            .or_else(|| named("work ends", same(&self.ends, &before.ends)))
+            .or_else(|| named("work letters", same(&self.letters, &before.letters)))
+    }
+}
+
 /// What is wrong with a list, which should be as it was.
 pub fn same<T: Bits>(list: &Places<T>, was: &Places<T>) -> Option<String> {
     list.hold(was.bits().iter().copied())
@@ -111,6 +149,14 @@ pub fn text(random: &mut Random) -> Text {
         letters,
         units,
         key,
+    }
+}
+
+/// Gives words of most lists few letters: one, up to 3, or up to 8, so that they fit in short sounds.
+pub fn few_letters(words: &mut [HeardWord], random: &mut Random) {
+    let most = random.of(&[1, 3, 8, 8, MAX_LETTERS]);
+    for word in words {
+        word.text.letters = 1 + (word.text.letters - 1) % most;
     }
 }
 

@@ -40,7 +40,7 @@ fn even(name: &str, runs: usize, words: &[HeardWord], limit: f64) {
 }
 
 /// A span that takes so many words.
-fn span(count: usize, start: f64, end: f64) -> Cue {
+pub fn span(count: usize, start: f64, end: f64) -> Cue {
     let count = count as u32;
     let text = Script { count };
     Cue { text, start, end }
@@ -48,7 +48,7 @@ fn span(count: usize, start: f64, end: f64) -> Cue {
 
 /// Spans of one to twelve words each, from 0.1 s after the first word starts to 0.1 s before the last
 /// one ends: these two are not inside.
-fn ordinary(words: &[HeardWord], random: &mut Random) -> Vec<Cue> {
+pub fn ordinary(words: &[HeardWord], random: &mut Random) -> Vec<Cue> {
     let mut spans = Vec::new();
     let mut rest = words;
     while !rest.is_empty() {

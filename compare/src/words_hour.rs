@@ -13,6 +13,7 @@ use crate::transcript::envelope::{Envelope, frame_seconds};
 use crate::transcript::loops::collapse_loops;
 use crate::words::{LAST, Lent, MAX_WORDS};
 use crate::words_alone;
+use crate::words_fit;
 
 /// The end of the hour.
 pub const HOUR: f64 = 3600.0;
@@ -192,4 +193,5 @@ pub fn bench(seed: u64, runs: usize, heard: &Envelope) {
     stage(2, "ordinary", runs, &words, heard);
     slow_ends(runs, [&loud, &none]);
     words_alone::bench(runs, &words, &mut random);
+    words_fit::bench(runs, &words, [heard, &loud, &none], &mut random);
 }

@@ -2,7 +2,7 @@
 //! those that apply, and every lent place as it was.
 
 use crate::faults::{FAULTS, Fault, Given, Loan};
-use crate::ffi::{self, Left, Over, Placed};
+use crate::ffi::{self, Grouped, Left, Over, Placed};
 use crate::inputs::Random;
 use crate::places::Places;
 use crate::recordings::{HOP, MAX_SAMPLES};
@@ -14,14 +14,22 @@ pub struct Refused;
 /// A call that takes words, and what else it takes.
 struct Call {
     name: &'static str,
+    /// Whether it takes words.
+    speaks: bool,
     /// Whether it takes a sound.
     hears: bool,
     /// Whether it takes a duration.
     lasts: bool,
     /// Whether it takes a limit.
     ends: bool,
-    /// Whether it takes spans, and phrase places.
+    /// Whether it takes two times to search between.
+    searches: bool,
+    /// Whether it takes spans.
+    spans: bool,
+    /// Whether it takes phrase places.
     places: bool,
+    /// Whether it takes phrase numbers, and work space.
+    groups: bool,
     /// The refusals that it knows.
     refusals: &'static [u32],
     ours: fn(&mut Loan, &Given) -> Left,
@@ -30,15 +38,19 @@ struct Call {
 /// A call that takes words alone.
 const WORDS: Call = Call {
     name: "collapse_loops",
+    speaks: true,
     hears: false,
     lasts: false,
     ends: false,
+    searches: false,
+    spans: false,
     places: false,
+    groups: false,
     refusals: &[3, 4, 1, 2],
     ours: |loan, _| ffi::collapse_loops(&mut loan.words),
 };
 
-static CALLS: [Call; 6] = [
+static CALLS: [Call; 9] = [
     WORDS,
     Call {
         name: "hand_back_tails",
@@ -73,9 +85,39 @@ static CALLS: [Call; 6] = [
     },
     Call {
         name: "align_phrases",
+        spans: true,
         places: true,
         refusals: &[3, 4, 1, 2, 6],
         ours: |loan, _| place(loan),
+        ..WORDS
+    },
+    Call {
+        name: "last_run",
+        speaks: false,
+        hears: true,
+        searches: true,
+        refusals: &[4, 1, 7],
+        ours: |_, given| search(given),
+        ..WORDS
+    },
+    Call {
+        name: "fit_to_sound",
+        hears: true,
+        lasts: true,
+        refusals: &[3, 4, 1, 2, 7],
+        ours: |loan, given| {
+            let (words, over) = (&mut loan.words, given.over());
+            refusing(ffi::fit_to_sound(words, over, given.duration))
+        },
+        ..WORDS
+    },
+    Call {
+        name: "fit_file",
+        hears: true,
+        spans: true,
+        groups: true,
+        refusals: &[3, 4, 1, 2, 7, 6],
+        ours: |loan, given| refusing(fit(loan, given)),
         ..WORDS
     },
 ];
@@ -92,12 +134,41 @@ fn place(loan: &mut Loan) -> Left {
         words,
         spans,
         phrases,
+        ..
     } = loan;
     let Placed { refusal, count } = ffi::align_phrases(words, spans, phrases);
     Left {
         count,
         ..refusing(refusal)
     }
+}
+
+/// The answer of a last run, whose times have to be zeros.
+fn search(given: &Given) -> Left {
+    let run = ffi::last_run(given.over(), given.from, given.to);
+    let times = [run.start, run.end].map(f64::to_bits);
+    Left {
+        refusal: run.refusal,
+        found: run.found,
+        count: times.iter().filter(|&&bits| bits != 0).count(),
+    }
+}
+
+/// The answer of fitting by phrase.
+fn fit(loan: &mut Loan, given: &Given) -> u32 {
+    let mut grouped = Grouped {
+        phrases: loan.numbers.clone(),
+        spans: loan.spans.clone(),
+        work: loan.work.clone(),
+    };
+    let refusal = ffi::fit_file(&mut loan.words, &mut grouped, given.over());
+    let Grouped {
+        phrases,
+        spans,
+        work,
+    } = grouped;
+    (loan.numbers, loan.spans, loan.work) = (phrases, spans, work);
+    refusal
 }
 
 /// The answer of a refusal: its number, and nothing found or left.
@@ -147,34 +218,63 @@ impl Given {
         }
     }
 
+    /// Whether lists that belong together differ in length.
+    fn unlike(&self, call: &Call) -> bool {
+        let Loan {
+            words,
+            spans,
+            numbers,
+            ..
+        } = &self.loan;
+        call.speaks && words_differ(words)
+            || call.spans && spans_differ(spans)
+            || call.groups && numbers.lent() != words.starts.lent()
+    }
+
     /// Whether there is too much of something.
     fn too_many(&self, call: &Call) -> bool {
         let Loan { words, spans, .. } = &self.loan;
         let too_many_spans =
             spans.starts.lent() > MAX_SPANS || any_off(&spans.counts, 0, MAX_COUNT);
-        words.starts.lent() > MAX_WORDS
+        call.speaks && words.starts.lent() > MAX_WORDS
             || call.hears && self.count > MAX_SAMPLES
-            || call.places && too_many_spans
+            || call.spans && too_many_spans
     }
 
     /// Whether something is no time.
     fn bad_time(&self, call: &Call) -> bool {
         let Loan { words, spans, .. } = &self.loan;
         let no_limit = self.limit != f64::INFINITY && outside(&self.limit.to_bits());
-        any_outside(&words.starts, &words.ends)
+        let search = [self.from, self.to].map(f64::to_bits);
+        call.speaks && any_outside(&words.starts, &words.ends)
             || call.lasts && outside(&self.duration.to_bits())
             || call.ends && no_limit
-            || call.places && any_outside(&spans.starts, &spans.ends)
+            || call.searches && search.iter().any(outside)
+            || call.spans && any_outside(&spans.starts, &spans.ends)
+    }
+
+    /// Whether a word's letters or units are outside their range.
+    fn bad_number(&self, call: &Call) -> bool {
+        let Lent { letters, units, .. } = &self.loan.words;
+        call.speaks && (any_off(letters, 1, MAX_LETTERS) || any_off(units, 1, MAX_UNITS))
+    }
+
+    /// Whether there are too few places.
+    fn too_few(&self, call: &Call) -> bool {
+        let Loan {
+            words,
+            phrases,
+            work,
+            ..
+        } = &self.loan;
+        let n = words.starts.lent();
+        let work = [work.starts.lent(), work.ends.lent(), work.letters.lent()];
+        call.places && phrases.lent() < n || call.groups && work.iter().any(|&lent| lent < n)
     }
 
     /// Document 01's refusal; 0 where there is none.
     fn refusal(&self, call: &Call) -> u32 {
-        let Loan {
-            words,
-            spans,
-            phrases,
-        } = &self.loan;
-        if words_differ(words) || call.places && spans_differ(spans) {
+        if self.unlike(call) {
             return 3;
         }
         if self.too_many(call) {
@@ -183,13 +283,13 @@ impl Given {
         if self.bad_time(call) {
             return 1;
         }
-        if any_off(&words.letters, 1, MAX_LETTERS) || any_off(&words.units, 1, MAX_UNITS) {
+        if self.bad_number(call) {
             return 2;
         }
         if call.hears && self.levels.len() != self.count / HOP {
             return 7;
         }
-        6 * u32::from(call.places && phrases.lent() < words.starts.lent())
+        6 * u32::from(self.too_few(call))
     }
 
     /// What is wrong with the answer of a call that has to refuse, or with what it left.

@@ -111,7 +111,7 @@ module _ (row : List Bool) (b : ℕ) (short : length row ≤ 360000) (large : 23
   start-under start nextEnd h = run-holds (findTurn row) (Under b) (λ k. Unit {0}) find-turn (λ k u. tt) (toNat (frameAt nextEnd -ℤ frameAt start)) (frameAt start) (on start) tt h
 
   -- ---- where the sound ends
-  abbrev Heard : ℤ → Type 0
+  abbrev pub Heard : ℤ → Type 0
   Heard (pos j) = j < length row
   Heard (negsuc j) = Unit {0}
 
@@ -128,16 +128,16 @@ module _ (row : List Bool) (b : ℕ) (short : length row ≤ 360000) (large : 23
       go false t true = h
       go false t false = h
 
-  last-heard : (edge : ℕ) (a bound : ℤ) → Heard (lastLoud edge row a bound)
+  pub last-heard : (edge : ℕ) (a bound : ℤ) → Heard (lastLoud edge row a bound)
   unfolding lastLoud
   last-heard edge a bound =
       run-holds (lastTurn edge row) (λ (s : Last). Heard (s .last)) (λ k. Unit {0}) (last-turn edge) (λ k u. tt) (toNat (bound -ℤ a)) a (on (record { last = negsuc 0; quiet = 0 })) tt tt
 
-  abbrev SoundUnder : SoundEnd → Type 0
+  abbrev pub SoundUnder : SoundEnd → Type 0
   SoundUnder NoSound = Unit {0}
   SoundUnder (Ends s) = Under b s
 
-  sound-under : (last : ℤ) → Heard last → SoundUnder (soundEnd last)
+  pub sound-under : (last : ℤ) → Heard last → SoundUnder (soundEnd last)
   unfolding soundEnd
   sound-under (negsuc j) h = tt
   sound-under (pos j) h = go (ltb j 0)

@@ -66,7 +66,7 @@ min-none (inf false) = refl
 min-none (fin s m e) = refl
 
 -- in whole seconds
-coarse : (c : ℕ) (x : Float) → c ≤ farthest → UnderIn steps c x → UnderIn 1 8192 x
+pub coarse : (c : ℕ) (x : Float) → c ≤ farthest → UnderIn steps c x → UnderIn 1 8192 x
 coarse c x l h = under-coarser 1 steps 8192 x (lit< tt) (under-more steps c (8192 * steps) x (omega arith) h)
 
 module _ (letters : List ℕ) (ls : AllFrom 1 1000 letters) (few : length letters ≤ 4096) (limit : Float) where

@@ -11,4 +11,6 @@ pub mod Sharing
 pub mod Placing
 pub mod Sides
 pub mod Evening
+pub mod Fitting
+pub mod Phrasing
 pub mod Small

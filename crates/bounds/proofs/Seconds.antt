@@ -31,7 +31,7 @@ module _ (b n : ℕ) (B : b < 2 ^ 40) (l : n * 64 ≤ b * 16000) where
       cross : (X E : ℕ) → X * 1 ≤ n * E → X * 1 * 64 ≤ b * (125 * 2 ^ 7 * E)
       cross X E h = let r : n * 64 * E ≤ b * 16000 * E = mul-le-mul-right E l in omega arith
 
-  plus-under : Under b (div binary64 (ofInt binary64 (pos n)) rate)
+  pub plus-under : Under b (div binary64 (ofInt binary64 (pos n)) rate)
   unfolding ofInt
   plus-under = in-seconds false (round binary64 false n 1) (whole-most false n (omega arith))
 

@@ -30,7 +30,7 @@ module _ (d : ℕ) where
   sides-under b (fin true m e) h k = k refl
   sides-under b (fin false m e) h k = h refl
 
-  side-more : (s : Bool) (a b : ℕ) (x : Float) → a ≤ b → Side s a x → Side s b x
+  pub side-more : (s : Bool) (a b : ℕ) (x : Float) → a ≤ b → Side s a x → Side s b x
   side-more s a b nan l h = h
   side-more s a b (inf t) l h = h
   side-more s a b (fin t m e) l h = λ z. let r : a * down e ≤ b * down e = mul-le-mul-right (down e) l in let k = h z in omega arith
@@ -118,3 +118,7 @@ clamp-under d a b end ceiling x l h k n =
     let m = min-side d b ceiling x n k in
     sides-under d b (jsMax end (jsMin ceiling x)) (max-sides d b false end (jsMin ceiling x) (side-more d false a b end l (under-side d false a end h)) m)
     (max-side d b end (jsMin ceiling x) (side-number d b false (jsMin ceiling x) m) (side-more d true a b end l (under-side d true a end h)))
+
+-- ---- the larger of a number within a bound and one that the bound is above
+pub above-under : (d b : ℕ) (x y : Float) → UnderIn d b x → Side d false b y → isNan y ≡ false → UnderIn d b (jsMax x y)
+above-under d b x y h k n = sides-under d b (jsMax x y) (max-sides d b false x y (under-side d false b x h) k) (max-side d b x y n (under-side d true b x h))

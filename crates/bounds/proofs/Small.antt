@@ -1,6 +1,6 @@
 -- Every time stays finite and below 2^13 in size, through each of collapse_loops, hand_back_tails, snap_onsets and snap_ends, through them in a row, and through each of
--- align_phrases and even_out. Times start within 7,200 s. Loops raise none, onsets add 1 sixty-fourth, and ends 10 for each of 4,096 words: 501,761 of 524,288. Placing
--- adds less than 2^-27 s, and evening 120 s and less than 2^-15 s. Assumes nothing.
+-- align_phrases, even_out, fit_to_sound and the fit by phrase. Times start within 7,200 s. Loops raise none, onsets add 1 sixty-fourth, and ends 10 for each of 4,096 words:
+-- 501,761 of 524,288. Placing adds less than 2^-27 s, and evening 120 s and less than 2^-15 s. Fitting to sound adds less than 202 s, and by phrase less than 366 s. Assumes nothing.
 use Prim.Native.Nat.{ℕ, zero, suc, _+_, _-_, _*_, _/_, _<_, _≤_, _^_}
 use mathlib.Core.Bool.{Bool, true, false, _&&_, _||_, true≢false}
 use mathlib.Core.List.{List}
@@ -37,8 +37,15 @@ use Rattle.phrase_align.specs.declared.Answer.the-variants as placed
 use Rattle.even.specs.Even.{evenOut}
 use Rattle.even.specs.Calls.{evenCall}
 use Rattle.even.proofs.Calls as even
+use Rattle.fit_to_sound.specs.Fit.{fitToSound}
+use Rattle.fit_to_sound.specs.Calls.{fitCall}
+use Rattle.fit_to_sound.proofs.Calls as fit
+use Rattle.fit_phrases.specs.FitPhrases.{fitFile}
+use Rattle.fit_file.specs.Calls.{durationOf, fitFileCall}
+use Rattle.fit_file.proofs.Calls as file
 use Rattle.bounds.specs.Bounds.{Small, SmallTimes, UnderIn, EdgesUnderIn, EdgesUnder}
 use Rattle.bounds.proofs.Rounding.{under-more, under-finer}
+use Rattle.bounds.proofs.Seconds.{plus-under}
 use Rattle.bounds.proofs.Tailing.{tails-under, tails-long}
 use Rattle.bounds.proofs.Onsetting.{onsets-under, onsets-long}
 use Rattle.bounds.proofs.Ending.{growth, ends-under}
@@ -46,6 +53,8 @@ use Rattle.bounds.proofs.Parted.{Each}
 use Rattle.bounds.proofs.Sharing.{steps, stray, Timed}
 use Rattle.bounds.proofs.Placing.{align-under}
 use Rattle.bounds.proofs.Evening.{slowest, Limit, even-under}
+use Rattle.bounds.proofs.Fitting.{drift, fit-under}
+use Rattle.bounds.proofs.Phrasing.{haul, file-under}
 
 -- ---- below 2^13 seconds are 2^13 × d of the d-ths
 small-under : (d b : ℕ) (x : Float) → b < 2 ^ 13 * d → UnderIn d b x → Small x
@@ -189,6 +198,36 @@ even-small ws limit h =
     limited : LimitWithin limit → Limit (7200 * steps) slowest limit
     limited (inl t) = inr (under-more steps (7200 * steps) (7200 * steps + slowest) limit (omega arith) (within-under steps limit t))
     limited (inr t) = inl (t, le-refl slowest)
+
+-- ---- fitting to sound: 7,200 s, 120 s for the last word's slow pace, and 0.02 s and two evenings for each of 4,096 words
+pub fit-small : (ws : Words) (levels : List Float) (floor : Float) (count : ℕ) (duration : Float) → fitCall ws levels floor count duration .answer ≡ Accepted → SmallTimes (fitCall ws levels floor count duration .words)
+fit-small ws levels floor count duration h =
+    let w = fit.accepted-exactly ws levels floor count duration .1 h in
+    let n : length (ws .letters) ≤ 4096 = omega (arith, w .0 .0 .few, w .0 .0 .letters-as-long) in
+    subst SmallTimes (sym (fit.accepted-words ws levels floor count duration h))
+    (edges-small steps (7200 * steps + slowest + drift * length (ws .letters)) (fitToSound (loudRow floor levels) duration (ws .letters) (edges (ws .starts) (ws .ends))) ws (omega arith)
+    (fit-under (ws .letters) (w .0 .0 .letters-from-1) n (loudRow floor levels) (hour-long levels floor count (w .0 .1)) duration (7200 * steps) (lit≤ tt) (omega arith) (within-under steps duration (w .1))
+    (edges (ws .starts) (ws .ends)) (words-timed ws (w .0 .0)) .small))
+
+-- ---- the fit by phrase: as fitting to sound, and 0.04 s and one evening more for each of 4,096 words; an hour's samples last an hour
+hour-lasts : (samples : ℕ) → samples ≤ 57600000 → UnderIn steps (7200 * steps) (durationOf samples)
+unfolding durationOf
+hour-lasts samples h = under-more steps (3600 * steps) (7200 * steps) (durationOf samples) (lit≤ tt) (under-finer 64 (2 ^ 34) 230400 (durationOf samples) (plus-under 230400 samples (lit< tt) (omega arith)))
+
+pub fit-file-small : (ws : Words) (phrases : List ℕ) (spans : Spans) (levels : List Float) (floor : Float) (samples places : ℕ) → fitFileCall ws phrases spans levels floor samples places .answer ≡ Accepted
+    → SmallTimes (fitFileCall ws phrases spans levels floor samples places .words)
+fit-file-small ws phrases spans levels floor samples places h =
+    let a = file.accepted-exactly ws phrases spans levels floor samples places .1 h in
+    let w = a .0 .0 in
+    let sp = a .1 .1 .0 in
+    let n : length (ws .letters) ≤ 4096 = omega (arith, w .few, w .letters-as-long) in
+    let given : Edges = edges (ws .starts) (ws .ends) in
+    let within : Edges = edges (spans .starts) (spans .ends) in
+    subst SmallTimes (sym (file.accepted-words ws phrases spans levels floor samples places h))
+    (edges-small steps (7200 * steps + slowest + haul * length (ws .letters)) (fitFile (loudRow floor levels) (durationOf samples) (ws .letters) phrases within given) ws (omega arith)
+    (file-under (ws .letters) (w .letters-from-1) n (loudRow floor levels) (hour-long levels floor samples (a .0 .1)) (durationOf samples) phrases within (7200 * steps) (lit≤ tt) (omega arith) (hour-lasts samples (a .0 .1 .0))
+    (λ p l. (within-under steps (getD (spans .starts) p nan) (sp .starts-within p l), within-under steps (getD (spans .ends) p nan) (sp .ends-within p (omega (arith, l, sp .ends-as-long)))))
+    given (words-timed ws w) .small))
 
 -- ---- placing: 7,200 s and one share-out; the places past the words hold zero
 pub align-small : (ws : Words) (spans : Spans) (phrases : List ℕ) (n : ℕ) → alignCall ws spans phrases .answer ≡ placed.Accepted n → SmallTimes (alignCall ws spans phrases .words)

@@ -9,7 +9,9 @@ use Rattle.loops.specs.Calls as loops
 use Rattle.loops.specs.declared.Answer.{Answer as Collapsed}
 use Rattle.calls.specs.Calls.{Output, output}
 use Rattle.checks.specs.declared.Answer.{Answer}
-use Rattle.c_api.specs.Answers.{leftOf, leaves, leavesOf, movedOf, reply, replyOf, placedOf, placement, placementOf}
+use Rattle.checks.specs.declared.Answer.the-variants.{Accepted, Refused}
+use Rattle.fit_file.specs.Calls as fits
+use Rattle.c_api.specs.Answers.{leftOf, leaves, leavesOf, movedOf, reply, replyOf, placedOf, placement, placementOf, Unchanged}
 use Rattle.c_api.specs.declared.QiluvraitLeft.{QiluvraitLeft}
 use Rattle.c_api.specs.declared.QiluvraitPlaced.{QiluvraitPlaced}
 
@@ -24,3 +26,9 @@ leaves-made ws p q = ap (λ (m : QiluvraitLeft). leaves m ws) p ∙ ap leavesOf 
 pub placement-made : {l : QiluvraitPlaced} {a : Placed} {o : phrases.Output} (ws : Words) (f : List ℕ) → l ≡ placedOf a → phrases.output a ws f ≡ o → placement l ws f ≡ placementOf o
 unfolding placementOf
 placement-made ws f p q = ap (λ (m : QiluvraitPlaced). placement m ws f) p ∙ ap placementOf q
+
+-- ---- work space that a refusal leaves as it was
+pub kept-made : {A : Type 0} {n : ℕ} {before after : List A} (a : Answer) → n ≡ movedOf a → fits.Unchanged a before after → Unchanged n before after
+unfolding fits.Unchanged
+kept-made Accepted p k = λ no. absurd (no p)
+kept-made (Refused r) p k = λ _. k

@@ -1,5 +1,6 @@
 -- An answer as numbers: refusal 0 and the value where the call accepts, document 01's number of the refusal and 0 where it refuses. Assumes nothing.
 use Prim.Native.Nat.{ℕ}
+use mathlib.Core.Path.{_≡_}
 use mathlib.Core.Bool.{cond}
 use mathlib.Core.List.{List}
 use lib.Ieee.{binary64, ofBits}
@@ -20,7 +21,12 @@ use Rattle.pieces.specs.declared.Answer.{Answer as Cut}
 use Rattle.pieces.specs.declared.Answer.the-variants as cut
 use Rattle.tally.specs.declared.Level.{Level}
 use Rattle.tally.specs.declared.Level.the-variants as level
+use Rattle.last_run.specs.declared.Run.{Run}
+use Rattle.last_run.specs.declared.Run.the-variants.{Sound, Nothing}
+use Rattle.last_run.specs.declared.Answer.{Answer as Searched}
+use Rattle.last_run.specs.declared.Answer.the-variants as searched
 use Rattle.c_api.specs.declared.QiluvraitLevel.{QiluvraitLevel}
+use Rattle.c_api.specs.declared.QiluvraitRun.{QiluvraitRun}
 use Rattle.c_api.specs.declared.QiluvraitHeard.{QiluvraitHeard}
 use Rattle.c_api.specs.declared.QiluvraitCut.{QiluvraitCut}
 use Rattle.c_api.specs.declared.QiluvraitLeft.{QiluvraitLeft}
@@ -40,6 +46,15 @@ cutOf (cut.Refused r) = record { refusal = number r; pieces = 0 }
 abbrev pub levelOf : Level → QiluvraitLevel
 levelOf (level.Accepted v) = record { refusal = 0; level = v }
 levelOf (level.Refused r) = record { refusal = number r; level = ofBits binary64 0 }
+
+-- ---- 1 and a run's two times, or 0 and zeros for no sound, or why there is no answer.
+abbrev pub runOf : Run → QiluvraitRun
+runOf (Sound s e) = record { refusal = 0; found = 1; start = s; end = e }
+runOf Nothing = record { refusal = 0; found = 0; start = ofBits binary64 0; end = ofBits binary64 0 }
+
+abbrev pub searchedOf : Searched → QiluvraitRun
+searchedOf (searched.Accepted r) = runOf r
+searchedOf (searched.Refused r) = record { refusal = number r; found = 0; start = ofBits binary64 0; end = ofBits binary64 0 }
 
 -- ---- 0 where the times of words were moved, or why they were not; and the words afterwards.
 abbrev pub movedOf : Moved → ℕ
@@ -86,3 +101,7 @@ placement p ws f = record { placed = p; words = ws; phrases = f }
 
 unfoldable pub placementOf : phrases.Output → Placement
 placementOf o = placement (placedOf (o .answer)) (o .words) (o .phrases)
+
+-- ---- What a refusal leaves of work space: all of it.
+abbrev pub Unchanged : {A : Type 0} → ℕ → List A → List A → Type 0
+Unchanged refusal before after = (refusal ≡ 0 → ⊥) → after ≡ before

@@ -16,7 +16,11 @@ ghost use Rattle.ends.specs.Ends.{endsCall};
 ghost use Rattle.phrase_align.specs.Calls.{alignCall};
 ghost use Rattle.even.specs.Calls.{evenCall};
 ghost use Rattle.tally.specs.Peak.{peakCall};
-ghost use Rattle.c_api.specs.Answers.{heardOf, cutOf, levelOf, leftOf, leaves, leavesOf, movedOf, reply, replyOf, placedOf, placement, placementOf};
+ghost use Rattle.last_run.specs.Calls.{lastRunCall};
+ghost use Rattle.fit_to_sound.specs.Calls.{fitCall};
+ghost use Rattle.fit_file.specs.Calls.{workPlaces, fitFileCall};
+ghost use lib.ListN.{length};
+ghost use Rattle.c_api.specs.Answers.{heardOf, cutOf, levelOf, leftOf, leaves, leavesOf, movedOf, reply, replyOf, placedOf, placement, placementOf, runOf, searchedOf, Unchanged};
 ghost use Rattle.frames.specs.Frames.{frameAt, frameCeil, frameFromZero, frameSeconds};
 
 #[no_mangle]
@@ -354,5 +358,130 @@ pub extern "C" fn qiluvrait_even_out(
     ensures { λ r. ⌜ reply r (words (now (starts .exit)) (now (ends .exit)) (now (letters .entry)) (now (units .entry)) (now (keys .entry))) ≡ replyOf (evenCall (words (now (starts .entry)) (now (ends .entry)) (now (letters .entry)) (now (units .entry)) (now (keys .entry))) limit) ⌝ }
 {
     let answer = even::even_out(starts, ends, letters, units, keys, limit);
+    moved(answer)
+}
+
+// What qiluvrait_last_run answers: refusal 0, 1 where there is sound, and its two times, or the number of the refusal.
+#[repr(C)]
+pub struct QiluvraitRun {
+    pub refusal: u32,
+    pub found: u32,
+    pub start: f64,
+    pub end: f64,
+}
+
+// A run of sound, as numbers.
+fn run(r: last_run::Run) -> QiluvraitRun
+    ensures { λ s. ⌜ s ≡ runOf r ⌝ }
+{
+    match r {
+        last_run::Run::Sound(start, end) => QiluvraitRun {
+            refusal: 0,
+            found: 1,
+            start,
+            end,
+        },
+        last_run::Run::Nothing => QiluvraitRun {
+            refusal: 0,
+            found: 0,
+            start: 0.0,
+            end: 0.0,
+        },
+    }
+}
+
+// An answer of last_run::last_run_at, as numbers.
+fn searched(answer: last_run::Answer) -> QiluvraitRun
+    ensures { λ r. ⌜ r ≡ searchedOf answer ⌝ }
+{
+    match answer {
+        last_run::Answer::Accepted(r) => run(r),
+        last_run::Answer::Refused(why) => QiluvraitRun {
+            refusal: base::number(why),
+            found: 0,
+            start: 0.0,
+            end: 0.0,
+        },
+    }
+}
+
+#[no_mangle]
+pub extern "C" fn qiluvrait_last_run(
+    levels: &[f64],
+    floor: f64,
+    count: usize,
+    from: f64,
+    to: f64,
+) -> QiluvraitRun
+    ensures { λ r. ⌜ r ≡ searchedOf (lastRunCall (now (levels .entry)) floor count from to) ⌝ }
+{
+    searched(last_run::last_run_at(levels, floor, count, from, to))
+}
+
+#[no_mangle]
+pub extern "C" fn qiluvrait_fit_to_sound(
+    starts: &mut [f64],
+    ends: &mut [f64],
+    letters: &[u32],
+    units: &[u32],
+    keys: &[u32],
+    levels: &[f64],
+    floor: f64,
+    count: usize,
+    duration: f64,
+) -> u32
+    ensures { λ r. ⌜ reply r (words (now (starts .exit)) (now (ends .exit)) (now (letters .entry)) (now (units .entry)) (now (keys .entry))) ≡ replyOf (fitCall (words (now (starts .entry)) (now (ends .entry)) (now (letters .entry)) (now (units .entry)) (now (keys .entry))) (now (levels .entry)) floor count duration) ⌝ }
+{
+    let answer = fit_to_sound::fit_to_sound(
+        starts,
+        ends,
+        letters,
+        units,
+        keys,
+        levels,
+        floor,
+        count,
+        duration,
+    );
+    moved(answer)
+}
+
+#[no_mangle]
+pub extern "C" fn qiluvrait_fit_file(
+    starts: &mut [f64],
+    ends: &mut [f64],
+    letters: &[u32],
+    units: &[u32],
+    keys: &[u32],
+    phrases: &[u32],
+    span_starts: &[f64],
+    span_ends: &[f64],
+    counts: &[u32],
+    levels: &[f64],
+    floor: f64,
+    count: usize,
+    work_starts: &mut [f64],
+    work_ends: &mut [f64],
+    work_letters: &mut [u32],
+) -> u32
+    ensures { λ r. ⌜ (reply r (words (now (starts .exit)) (now (ends .exit)) (now (letters .entry)) (now (units .entry)) (now (keys .entry))) ≡ replyOf (fitFileCall (words (now (starts .entry)) (now (ends .entry)) (now (letters .entry)) (now (units .entry)) (now (keys .entry))) (now (phrases .entry)) (spans (now («span_starts» .entry)) (now («span_ends» .entry)) (now (counts .entry))) (now (levels .entry)) floor count (workPlaces (length (now («work_starts» .entry))) (length (now («work_ends» .entry))) (length (now («work_letters» .entry)))))) × (Unchanged r (now («work_starts» .entry)) (now («work_starts» .exit)) × (Unchanged r (now («work_ends» .entry)) (now («work_ends» .exit)) × Unchanged r (now («work_letters» .entry)) (now («work_letters» .exit)))) ⌝ }
+{
+    let answer = fit_file::fit_file_at(
+        levels,
+        floor,
+        count,
+        starts,
+        ends,
+        letters,
+        units,
+        keys,
+        phrases,
+        span_starts,
+        span_ends,
+        counts,
+        work_starts,
+        work_ends,
+        work_letters,
+    );
     moved(answer)
 }

@@ -1,15 +1,15 @@
 -- Every case of the table, and the further sentences, by computing the definitions. Assumes nothing.
 use Prim.Native.Nat.{ℕ, _*_}
 use mathlib.Core.Path.{_≡_, refl, ap}
-use mathlib.Core.List.{[], _∷_}
-use mathlib.Core.Bool.{false}
+use mathlib.Core.List.{[], _∷_, _++_}
+use mathlib.Core.Bool.{true, false}
 use lib.Count.{trailingZeros}
 use lib.ListN.{replicate}
-use lib.Ieee.{isNan, ofInt, add, sub, neg, sum, mul, div, le, lt, eq, round, size, span, climb, units, odd, ofFields, ofBits}
-use Rattle.base.specs.Loop.{each, fold, run, down, up}
-use Rattle.base.specs.Words.{edges, partEdges, onPart}
+use lib.Ieee.{binary64, isNan, ofInt, add, sub, neg, sum, mul, div, le, lt, eq, round, size, span, climb, units, odd, ofFields, ofBits}
+use Rattle.base.specs.Loop.{each, fold, run, runBack, down, up}
+use Rattle.base.specs.Words.{edges, times, partEdges, onPart}
 use Rattle.js.specs.Js.{under, jsMax, jsMin, jsToFixed, nearestUp}
-use Rattle.frames.specs.Frames.{floorI64, frameAt, frameSeconds}
+use Rattle.frames.specs.Frames.{floorI64, frameAt, frameFromZero, frameSeconds}
 use Rattle.roots.specs.Sqrt.{sqrt, roundRoot, nearRoot, isqrt, rootDigits}
 use Rattle.levels.specs.Levels.{hop, squares, level}
 use Rattle.envelope.specs.Levels.{quietRow}
@@ -25,7 +25,10 @@ use Rattle.spreads.specs.Spread as spreads
 use Rattle.spread.specs.Spread as phrases
 use Rattle.stretches.specs.Even as stretches
 use Rattle.even.specs.Even as even
-use Rattle.cases.specs.Table.{Table, Sentences, double, keysLeft}
+use Rattle.last_run.specs.LastRun.{endsBetween, framesOf, frameRun, lastRun}
+use Rattle.last_run.specs.declared.Run.the-variants.{Sound}
+use Rattle.fit_group.specs.FitGroup.{insideSpan}
+use Rattle.cases.specs.Table.{Table, Sentences, double, zero, keysLeft}
 
 level-of-half : level (replicate 160 (double false 1 2)) ≡ double false 1 2
 unfolding level squares fold sqrt roundRoot nearRoot isqrt rootDigits add sum mul div round size span climb units odd ofFields ofBits trailingZeros
@@ -48,6 +51,10 @@ edge-shared : snapEnds (replicate 30 false) (double false 30 100) (3 ∷ 3 ∷ [
 unfolding snapEnds endTurn setPair nextStart isPair pairOf pairStart pairEdge endOf reach orDuration trimmed soundEnd lastLoud each run frameAt floorI64 frameSeconds jsMin jsMax jsToFixed nearestUp under isNan add sub neg sum mul div lt le eq ofInt round size span climb units odd ofBits ofFields trailingZeros
 edge-shared = refl
 
+pause-bridged : lastRun (replicate 4 true ++ (replicate 15 false ++ replicate 4 true)) (zero false) (double false 23 100) ≡ Sound (zero false) (double false 23 100)
+unfolding lastRun frameRun endsBetween framesOf runBack frameFromZero frameAt floorI64 frameSeconds mul div ofInt round size span climb units odd ofBits ofFields trailingZeros
+pause-bridged = refl
+
 pub table : Table
 unfolding jsToFixed nearestUp quietRow le lt eq round size span climb units odd
 table = record {
@@ -66,8 +73,13 @@ table = record {
   two-copies = two-copies;
   runs-of-two = runs-of-two;
   edge-shared = edge-shared;
+  pause-bridged = pause-bridged;
 }
+
+start-before-its-span : insideSpan (times (double false 1 1) (double false 102 100)) (times (double false 1 1) (double false 101 100)) ≡ times (ofBits binary64 0x3fef_5c28_f5c2_8f5c) (ofBits binary64 0x3ff0_51eb_851e_b852)
+unfolding insideSpan jsMin jsMax under isNan add sub neg sum lt eq round size span climb units odd ofBits ofFields trailingZeros
+start-before-its-span = refl
 
 pub sentences : Sentences
 unfolding phrases.placeGroup spreads.spread insides.inside insides.firstInside insides.lastInside spreads.spreadBefore spreads.spreadAfter phrases.betweenTurn phrases.placeBetween even.evenOut even.evenTurn even.evenRun stretches.stretchOf stretches.endOf stretches.borrowed stretches.borrows stretches.ceilingOf stretches.grown stretches.grows stretches.lastCrushed stretches.withSwollen stretches.firstCrushed stretches.swollen stretches.crushed stretches.sum shares.share shares.sum partEdges onPart each fold up down jsMin jsMax under isNan add sub neg sum mul div lt le eq ofInt round size span climb units odd ofBits ofFields trailingZeros
-sentences = record { spread-over-the-span = refl; span-reversed = refl; last-end-kept = refl }
+sentences = record { spread-over-the-span = refl; span-reversed = refl; last-end-kept = refl; start-before-its-span = start-before-its-span }

@@ -3,10 +3,10 @@ use Prim.Native.Nat.{ℕ, _*_}
 use mathlib.Core.Bool.{Bool, true, false}
 use mathlib.Core.Path.{_≡_}
 use lib.IntN.{pos}
-use lib.Ieee.{Float, fin, binary64, round}
-use mathlib.Core.List.{List, [], _∷_}
+use lib.Ieee.{Float, fin, binary64, round, ofBits}
+use mathlib.Core.List.{List, [], _∷_, _++_}
 use lib.ListN.{replicate}
-use Rattle.base.specs.Words.{words, edges}
+use Rattle.base.specs.Words.{words, edges, times}
 use Rattle.js.specs.Js.{jsToFixed}
 use Rattle.levels.specs.Levels.{hop, level}
 use Rattle.envelope.specs.Levels.{quietRow}
@@ -16,6 +16,9 @@ use Rattle.passes.specs.Loops.{collapseLoops}
 use Rattle.ends.specs.Ends.{snapEnds}
 use Rattle.spread.specs.Spread.{placeGroup}
 use Rattle.even.specs.Even.{evenOut}
+use Rattle.last_run.specs.LastRun.{lastRun}
+use Rattle.last_run.specs.declared.Run.the-variants.{Sound}
+use Rattle.fit_group.specs.FitGroup.{insideSpan}
 
 -- ---- The double that a decimal number stands for: the nearest to n / d, with a sign.
 abbrev pub double : Bool → ℕ → ℕ → Float
@@ -50,6 +53,8 @@ pub record Table : Type 0 where
   -- Onsets and ends: "● No loud frame, words (0.1, 0.12) and (0.13, 0.2), units 3 each: the edge is 0.16 for both."
   pub edge-shared : snapEnds (replicate 30 false) (double false 30 100) (3 ∷ 3 ∷ []) (edges (double false 10 100 ∷ double false 13 100 ∷ []) (double false 12 100 ∷ double false 20 100 ∷ []))
       ≡ edges (double false 10 100 ∷ double false 16 100 ∷ []) (double false 16 100 ∷ double false 20 100 ∷ [])
+  -- Evening and fitting: "Loud 0 to 3 and 19 to 22, from 0 to 0.23: ● last run (0, 0.23)."
+  pub pause-bridged : lastRun (replicate 4 true ++ (replicate 15 false ++ replicate 4 true)) (zero false) (double false 23 100) ≡ Sound (zero false) (double false 23 100)
 
 -- ---- Sentences of document 01 that bear no ●, each with an example of ours: letters, then the words' starts and ends.
 pub record Sentences : Type 0 where
@@ -61,3 +66,5 @@ pub record Sentences : Type 0 where
       ≡ edges (double false 9 1 ∷ double false 9 1 ∷ []) (double false 9 1 ∷ double false 9 1 ∷ [])
   -- Shortcuts: "Ends clipped to the duration after evening: `to` never falls below the last end.": the limit is 0.5 s, and the word ends at 1.0625 s.
   pub last-end-kept : evenOut (4 ∷ []) (double false 1 2) (edges (double false 1 1 ∷ []) (double false 17 16 ∷ [])) ≡ edges (double false 1 1 ∷ []) (double false 17 16 ∷ [])
+  -- Fitting: "A span under 0.04 s puts starts at its end minus 0.04, before its own start.": the span from 1 to 1.02 s.
+  pub start-before-its-span : insideSpan (times (double false 1 1) (double false 102 100)) (times (double false 1 1) (double false 101 100)) ≡ times (ofBits binary64 0x3fef_5c28_f5c2_8f5c) (ofBits binary64 0x3ff0_51eb_851e_b852)

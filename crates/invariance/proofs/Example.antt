@@ -7,7 +7,7 @@ use mathlib.Core.List.{List, [], _∷_, _++_}
 use Prim.Native.Nat.{ℕ, zero, suc}
 use lib.IntN.{ℤ, pos, negsuc}
 use lib.Dec.{lit<}
-use lib.ListN.{replicate}
+use lib.ListN.{length, replicate}
 use lib.Ieee.{Float, fin, ofBits, add, mul, div, lt, eq, le, fits, isNan}
 use Rattle.base.specs.Loop.{fold, table}
 use Rattle.js.specs.Js.{under, jsMax}
@@ -18,22 +18,22 @@ use Rattle.envelope.specs.Levels.{loudRow, quietRow}
 use Rattle.invariance.specs.Scaled.{Sampled, none, next, Recorded, Loudest}
 use Rattle.invariance.proofs.Rows.{rows-alike}
 
-abbrev half : Float
+abbrev pub half : Float
 half = fin false 1 (negsuc 0)
 
 abbrev minusTwo : Float
 minusTwo = fin true 1 (pos 1)
 
-abbrev plusZero : Float
+abbrev pub plusZero : Float
 plusZero = fin false 0 (pos 0)
 
 abbrev minusZero : Float
 minusZero = fin true 0 (pos 0)
 
-recording : List Float
+pub recording : List Float
 recording = replicate 160 half ++ replicate 160 plusZero
 
-multiplied : List Float
+pub multiplied : List Float
 multiplied = replicate 160 minusTwo ++ replicate 160 minusZero
 
 -- n samples of x and of y, before others
@@ -41,22 +41,30 @@ repeated : {k : ℤ} {reversed : Bool} {x y : Float} {xs ys : List Float} (n : �
 repeated zero h e = e
 repeated (suc n) h e = next h (repeated n h e)
 
-recorded : Recorded (pos 2) true recording multiplied
+pub recording-long : length recording ≡ 320
+unfolding recording
+recording-long = refl
+
+pub multiplied-long : length multiplied ≡ 320
+unfolding multiplied
+multiplied-long = refl
+
+pub recorded : Recorded (pos 2) true recording multiplied
 unfolding recording multiplied fits
 recorded =
     repeated 160 (record { first = tt; second = tt; scaled = (refl, inr refl) })
     (repeated 160 (record { first = tt; second = tt; scaled = (refl, inl refl) }) none)
 
-reached : Loudest recording multiplied
+pub reached : Loudest recording multiplied
 unfolding recording multiplied levels level squares frame fold table sqrt ofBits add mul div le
 reached = inr ((0, lit< tt, tt), (0, lit< tt, tt))
 
 -- the levels are 0.5 and 0, and beside them 2 and 0
-recording-levels : levels recording ≡ half ∷ (plusZero ∷ [])
+pub recording-levels : levels recording ≡ half ∷ (plusZero ∷ [])
 unfolding recording levels level squares frame fold table sqrt ofBits add mul div
 recording-levels = refl
 
-multiplied-levels : levels multiplied ≡ fin false 1 (pos 1) ∷ (plusZero ∷ [])
+pub multiplied-levels : levels multiplied ≡ fin false 1 (pos 1) ∷ (plusZero ∷ [])
 unfolding multiplied levels level squares frame fold table sqrt ofBits add mul div
 multiplied-levels = refl
 

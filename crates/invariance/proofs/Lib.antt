@@ -9,3 +9,6 @@ mod Samples
 mod Levels
 pub mod Rows
 mod Example
+pub mod Alone
+pub mod Phrases
+mod Fitted

@@ -34,12 +34,11 @@
 // of each place, a digit each, and zeros after them; there are as many places as words, and each
 // had a 9. A row is wrong where the call refuses it, or where p, the number of words or that of
 // spans is out of range.
-ghost use mathlib.Core.Path.{_≡_};
-ghost use Prim.Native.Nat.{_+_, _≤_};
-ghost use lib.Ieee.{binary64, nanBits};
+ghost use Prim.Native.Nat.{_≤_};
 ghost use lib.ListN.{length};
 use libc::STDIN_FILENO;
 use libc::STDOUT_FILENO;
+use rows::Digits;
 
 // The places of a tally: one for each kind of row, and the last for what is no row.
 const PLACES: usize = 20;
@@ -106,80 +105,6 @@ fn place(kind: u8) -> usize {
         b'G' => 18,
         _ => UNREADABLE,
     }
-}
-
-// A number read from its digits. Where a byte is none, `seen` is above 15.
-struct Digits {
-    bits: u64,
-    seen: u64,
-}
-
-// The value of an upper-case hexadecimal digit, or 16 for any other byte.
-fn digit(c: u8) -> u64 {
-    if c < b'0' {
-        return 16;
-    }
-    if c <= b'9' {
-        return (c - 48) as u64;
-    }
-    if c < b'A' {
-        return 16;
-    }
-    if c <= b'F' {
-        return (c - 55) as u64;
-    }
-    16
-}
-
-// The number of the 16 digits from `at` on.
-fn number(row: &[u8; 53], at: usize) -> Digits
-    requires { ⌜ at + 16 ≤ 53 ⌝ }
-{
-    let mut bits = 0u64;
-    let mut seen = 0u64;
-    let end = at + 16;
-    let mut i = at;
-    while i < end {
-        let d = digit(row[i]);
-        bits = (bits << 4) | d;
-        seen = seen | d;
-        i += 1;
-    }
-    Digits {
-        bits: bits,
-        seen: seen,
-    }
-}
-
-// Whether the bits are a NaN's.
-fn is_nan(bits: u64) -> bool
-    ensures { λ r. ⌜ r ≡ nanBits binary64 bits ⌝ }
-{
-    bits % 0x8000_0000_0000_0000 > 0x7ff0_0000_0000_0000
-}
-
-// The double of these bits.
-fn float(bits: u64) -> f64 {
-    if is_nan(bits) {
-        return 0.0 / 0.0;
-    }
-    f64::from_bits(bits)
-}
-
-// The whole number of these bits, in two's complement.
-fn signed(bits: u64) -> i64 {
-    if bits < 0x8000_0000_0000_0000 {
-        return bits as i64;
-    }
-    -1 - ((0xffff_ffff_ffff_ffff - bits) as i64)
-}
-
-// Whether x has these bits, or both are NaN.
-fn same(x: f64, bits: u64) -> bool {
-    if x != x {
-        return is_nan(bits);
-    }
-    f64::to_bits(x) == bits
 }
 
 // Makes so many frames quiet, from the first on.
@@ -297,25 +222,6 @@ fn is_collapsed(a: u64, words: usize, r: u64) -> bool {
     }
 }
 
-// The level of a frame: loud where the lowest bit is one.
-fn level(loud: u64) -> f64 {
-    if loud % 2 == 1 {
-        return 1.0;
-    }
-    0.0
-}
-
-// Makes a frame loud for each bit that is one, the lowest first.
-fn set_levels(levels: &mut [f64; 64], loud: u64) {
-    let mut left = loud;
-    let mut k = 0;
-    while k < 64 {
-        levels[k] = level(left);
-        left = left >> 1;
-        k += 1;
-    }
-}
-
 // Whether r is the new start of one word from `start` on.
 fn is_onset(levels: &[f64; 64], start: f64, r: u64) -> bool {
     let mut starts = [start; 1];
@@ -332,7 +238,7 @@ fn is_onset(levels: &[f64; 64], start: f64, r: u64) -> bool {
         SAMPLES,
     );
     match answer {
-        checks::Answer::Accepted => same(starts[0], r),
+        checks::Answer::Accepted => rows::same(starts[0], r),
         checks::Answer::Refused(_) => false,
     }
 }
@@ -354,7 +260,7 @@ fn is_end(levels: &[f64; 64], start: f64, r: u64) -> bool {
         DURATION,
     );
     match answer {
-        checks::Answer::Accepted => same(ends[0], r),
+        checks::Answer::Accepted => rows::same(ends[0], r),
         checks::Answer::Refused(_) => false,
     }
 }
@@ -376,7 +282,7 @@ fn is_handed_back(levels: &[f64; 64], start: f64, r: u64) -> bool {
         SAMPLES,
     );
     match answer {
-        checks::Answer::Accepted => same(starts[1], r),
+        checks::Answer::Accepted => rows::same(starts[1], r),
         checks::Answer::Refused(_) => false,
     }
 }
@@ -384,7 +290,7 @@ fn is_handed_back(levels: &[f64; 64], start: f64, r: u64) -> bool {
 // Whether r is the time that a stage leaves, for each kind of row with a recording.
 fn is_moved(kind: u8, start: f64, loud: u64, r: u64) -> bool {
     let mut levels = [0.0; 64];
-    set_levels(&mut levels, loud);
+    rows::set_levels(&mut levels, loud);
     match kind {
         b'E' => is_end(&levels, start, r),
         b'D' => is_handed_back(&levels, start, r),
@@ -432,12 +338,12 @@ fn is_time(starts: &[f64], ends: &[f64], asked: usize, r: u64) -> bool {
     let word = asked / 2;
     if asked % 2 == 0 {
         if word < starts.len() {
-            return same(starts[word], r);
+            return rows::same(starts[word], r);
         }
         return false;
     }
     if word < ends.len() {
-        return same(ends[word], r);
+        return rows::same(ends[word], r);
     }
     false
 }
@@ -563,24 +469,24 @@ fn is_timed(kind: u8, a: u64, b: u64, r: u64) -> bool {
     set_times(&mut ends, &digits, 3, 2, parts(kind));
     match kind {
         b'G' => is_placed(&mut starts[..n], &mut ends[..n], b, asked, r),
-        _ => is_evened(&mut starts[..n], &mut ends[..n], float(b), asked, r),
+        _ => is_evened(&mut starts[..n], &mut ends[..n], rows::float(b), asked, r),
     }
 }
 
 // Whether r is the answer for a and b, for each kind of row.
 fn is_right(kind: u8, a: u64, b: u64, r: u64) -> bool {
     match kind {
-        b'F' | b'X' => same(js::js_to_fixed(float(a)), r),
-        b'L' => same(js::js_min(float(a), float(b)), r),
-        b'H' => same(js::js_max(float(a), float(b)), r),
-        b'S' => same(roots::sqrt(float(a)), r),
-        b'A' | b'Y' => frames::frame_at(float(a)) == signed(r),
-        b'C' => frames::frame_ceil(float(a)) == signed(r),
-        b'Z' => frames::frame_from_zero(float(a)) == signed(r),
-        b'T' => same(frames::frame_seconds(signed(a)), r),
+        b'F' | b'X' => rows::same(js::js_to_fixed(rows::float(a)), r),
+        b'L' => rows::same(js::js_min(rows::float(a), rows::float(b)), r),
+        b'H' => rows::same(js::js_max(rows::float(a), rows::float(b)), r),
+        b'S' => rows::same(roots::sqrt(rows::float(a)), r),
+        b'A' | b'Y' => frames::frame_at(rows::float(a)) == rows::signed(r),
+        b'C' => frames::frame_ceil(rows::float(a)) == rows::signed(r),
+        b'Z' => frames::frame_from_zero(rows::float(a)) == rows::signed(r),
+        b'T' => rows::same(frames::frame_seconds(rows::signed(a)), r),
         b'P' => is_cut(a, b, r),
         b'K' => is_collapsed(a, b as usize, r),
-        b'O' | b'E' | b'D' | b'W' => is_moved(kind, float(a), b, r),
+        b'O' | b'E' | b'D' | b'W' => is_moved(kind, rows::float(a), b, r),
         b'V' | b'G' | b'U' => is_timed(kind, a, b, r),
         _ => false,
     }
@@ -595,11 +501,6 @@ fn add(tally: &mut [u64; 20], at: usize) {
     }
 }
 
-// Whether the row has spaces before its numbers and a line end after them.
-fn is_spaced(row: &[u8; 53]) -> bool {
-    row[1] == b' ' && row[18] == b' ' && row[35] == b' ' && row[52] == b'\n'
-}
-
 // Whether a kind has a second input.
 fn has_second(kind: u8) -> bool {
     match kind {
@@ -611,17 +512,17 @@ fn has_second(kind: u8) -> bool {
 // The second input, or 0 where the kind has none.
 fn second(row: &[u8; 53]) -> Digits {
     if has_second(row[0]) {
-        return number(row, 19);
+        return rows::number(row, 19);
     }
     Digits { bits: 0, seen: 0 }
 }
 
 // Counts a row, and counts it as wrong where its answer is.
 fn judge(row: &[u8; 53], compared: &mut [u64; 20], wrong: &mut [u64; 20]) {
-    let a = number(row, 2);
+    let a = rows::number(row, 2);
     let b = second(row);
-    let r = number(row, 36);
-    if (a.seen | b.seen | r.seen) > 15 || !is_spaced(row) {
+    let r = rows::number(row, 36);
+    if (a.seen | b.seen | r.seen) > 15 || !rows::is_spaced(row) {
         add(compared, UNREADABLE);
         return;
     }

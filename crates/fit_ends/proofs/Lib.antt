@@ -1,0 +1,4 @@
+-- Laws of words' ends.
+mod Silence
+mod Turns
+pub mod Kept

@@ -1,0 +1,3 @@
+-- Ends settled on their sound.
+pub mod Fit
+pub mod Parts

@@ -1,0 +1,3 @@
+-- The call, in plain words.
+pub mod Calls
+mod Witnesses

@@ -1,0 +1,2 @@
+-- The fit by phrase, as a call.
+pub mod Calls

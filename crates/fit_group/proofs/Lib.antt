@@ -1,0 +1,3 @@
+-- Laws of one phrase's words.
+pub mod Turns
+pub mod Kept

@@ -1,0 +1,2 @@
+-- The words of one phrase, fitted.
+pub mod FitGroup

@@ -1,0 +1,2 @@
+-- Laws of a phrase's words in the work space.
+mod Phrases

@@ -1,0 +1,2 @@
+-- Words fitted to their sound, phrase by phrase.
+pub mod FitPhrases

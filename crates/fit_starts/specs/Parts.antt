@@ -1,0 +1,26 @@
+-- What only the contracts of unchecked parts cite; a reader of the public call may skip it. Assumes nothing.
+use Prim.Native.Nat.{ℕ, _^_, min}
+use mathlib.Core.Bool.{Bool, cond, not}
+use mathlib.Core.List.{List}
+use lib.IntN.{ℤ, pos}
+use lib.Signed.{ltZ}
+use lib.ListN.{length}
+use Rattle.base.specs.Whole.{toNat}
+use Rattle.base.specs.Floats.{_⊖_}
+use Rattle.base.specs.declared.Times.{Times}
+use Rattle.base.specs.declared.NextStart.{NextStart}
+use Rattle.base.specs.declared.NextStart.the-variants.{Starts, NoNext}
+use Rattle.frames.specs.Frames.{frameAt, frameSeconds}
+use Rattle.fit_starts.specs.Fit.{beforeNext, stopAt, riseFrame, movedTo}
+
+-- ---- The index at which a search stops before the next word; `last` where there is none.
+unfoldable pub stopIndex : NextStart → ℕ → ℕ
+stopIndex (Starts s) last = min (toNat (frameAt (s ⊖ beforeNext))) (2 ^ 40)
+stopIndex NoNext last = last
+
+-- ---- A word in silence at frame f: what riseOf does with it.
+unfoldable pub riseFrom : List Bool → ℤ → NextStart → Times → Times
+riseFrom row f next w =
+    let stop = stopAt (pos (length row)) next (w .start) in
+    let k = riseFrame row f stop in
+    cond (not (ltZ k stop)) w (movedTo (frameSeconds k) w)

@@ -1,0 +1,60 @@
+-- The call `fit_to_sound` in plain words, and for the code what its tests found. By the laws of calls that move only times. Assumes nothing.
+use Prim.Native.Nat.{ℕ}
+use mathlib.Core.Path.{_≡_}
+use mathlib.Core.Logic.{_↔_}
+use mathlib.Core.List.{List}
+use lib.ListN.{length}
+use lib.Ieee.{Float}
+use Rattle.base.specs.Words.{Words, words, Edges, edges}
+use Rattle.base.specs.declared.Refusal.{Refusal}
+use Rattle.base.specs.declared.Rule.{Rule}
+use Rattle.base.specs.declared.Rule.the-variants.{Fine, Breaks}
+use Rattle.base.proofs.First.{First}
+use Rattle.checks.specs.Order.{inOrder}
+use Rattle.calls.specs.Calls.{timedRule, output}
+use Rattle.checks.specs.declared.Answer.the-variants.{Accepted, Refused}
+use Rattle.calls.proofs.Within.{Within}
+use Rattle.calls.proofs.Moved as moves
+use Rattle.envelope.specs.Levels.{loudRow}
+use Rattle.fit_to_sound.specs.Fit.{fitToSound}
+use Rattle.fit_to_sound.specs.Calls.{fitCall}
+
+module _ (ws : Words) (levels : List Float) (floor : Float) (count : ℕ) (duration : Float) where
+  -- the edges that the stage gives
+  abbrev given : Edges
+  given = fitToSound (loudRow floor levels) duration (ws .letters) (edges (ws .starts) (ws .ends))
+
+  -- ---- accepted exactly when words, samples and levels and the duration are within the limits
+  pub accepted-exactly : (moves.SoundWithin ws (length levels) count × Within duration) ↔ (fitCall ws levels floor count duration .answer ≡ Accepted)
+  unfolding fitCall
+  accepted-exactly = moves.timed-accepted ws (length levels) count given duration
+
+  -- ---- and then the words have the edges that the stage gives
+  pub accepted-words : fitCall ws levels floor count duration .answer ≡ Accepted → fitCall ws levels floor count duration .words ≡ words (given .starts) (given .ends) (ws .letters) (ws .units) (ws .keys)
+  unfolding fitCall
+  accepted-words h = moves.accepted-words given ws (timedRule ws (length levels) count duration) h
+
+  -- ---- refused with r exactly when r is the first refusal that applies, of 3, 4, 1, 2, 7
+  pub refused-exactly : (r : Refusal) → First r (inOrder (moves.timedApplies ws (length levels) count duration)) ↔ (fitCall ws levels floor count duration .answer ≡ Refused r)
+  unfolding fitCall
+  refused-exactly r = moves.timed-refused ws (length levels) count given duration r
+
+  -- ---- a refusal changes nothing
+  pub refusal-keeps : (r : Refusal) → fitCall ws levels floor count duration .answer ≡ Refused r → fitCall ws levels floor count duration .words ≡ ws
+  unfolding fitCall
+  refusal-keeps r h = moves.refusal-keeps given ws r (timedRule ws (length levels) count duration) h
+
+  -- ---- letters, units and keys stay, accepted or refused
+  pub others-stay : moves.Keeps ws (fitCall ws levels floor count duration .words)
+  unfolding fitCall
+  others-stay = moves.moved-keeps given ws (timedRule ws (length levels) count duration)
+
+  -- for the code
+  module _ {found : Rule} (is : found ≡ timedRule ws (length levels) count duration) where
+    pub refused-made : (r : Refusal) → found ≡ Breaks r → output (Refused r) ws ≡ fitCall ws levels floor count duration
+    unfolding fitCall
+    refused-made r e = moves.refused-made (timedRule ws (length levels) count duration) given ws is r e
+
+    pub accepted-made : (s e : List Float) → found ≡ Fine → edges s e ≡ given → output Accepted (words s e (ws .letters) (ws .units) (ws .keys)) ≡ fitCall ws levels floor count duration
+    unfolding fitCall
+    accepted-made s e f m = moves.moved-made (timedRule ws (length levels) count duration) given ws is s e f m

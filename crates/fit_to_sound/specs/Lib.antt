@@ -1,0 +1,3 @@
+-- Words fitted to their sound.
+pub mod Fit
+pub mod Calls

@@ -1,0 +1,32 @@
+// Words fitted to their sound, from a recording's envelope.
+ghost use mathlib.Core.Path.{_≡_};
+ghost use Rattle.base.specs.Words.{words};
+ghost use Rattle.calls.specs.Calls.{output};
+ghost use Rattle.fit_to_sound.specs.Calls.{fitCall};
+use checks::Answer;
+use envelope::view::Envelope;
+
+// Fits words to the sound of the recording whose envelope is e (fit.rs, fit_to_sound).
+pub fn fit_to_sound<'a>(
+    e: Envelope<'a>,
+    starts: &mut [f64],
+    ends: &mut [f64],
+    letters: &[u32],
+    units: &[u32],
+    keys: &[u32],
+    duration: f64,
+) -> Answer
+    ensures { λ r. ⌜ output r (words (now (starts .exit)) (now (ends .exit)) (now (letters .entry)) (now (units .entry)) (now (keys .entry))) ≡ fitCall (words (now (starts .entry)) (now (ends .entry)) (now (letters .entry)) (now (units .entry)) (now (keys .entry))) (now (e .entry .levels)) (e .entry .floor) (e .entry .count) duration ⌝ }
+{
+    super::fit_to_sound(
+        starts,
+        ends,
+        letters,
+        units,
+        keys,
+        e.levels,
+        e.floor,
+        e.count,
+        duration,
+    )
+}

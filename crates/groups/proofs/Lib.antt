@@ -1,0 +1,3 @@
+-- Laws of groups.
+pub mod Members
+pub mod Local

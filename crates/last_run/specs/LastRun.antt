@@ -1,0 +1,56 @@
+-- fit.rs, last_run, line by line. A `row` says which frames are loud; frames are whole numbers, as there. Assumes nothing.
+use Prim.Native.Nat.{ℕ}
+use mathlib.Core.Bool.{Bool, cond, _&&_, _||_}
+use mathlib.Core.List.{List}
+use lib.IntN.{ℤ, pos, negsuc, _+ℤ_, _-ℤ_}
+use lib.Signed.{ltZ, nonNeg}
+use lib.ListN.{length}
+use lib.Ieee.{Float}
+use Rattle.base.specs.Whole.{toNat, minZ}
+use Rattle.base.specs.Loop.{Turn, on, out, rangeBack}
+use Rattle.base.specs.Words.{endSilence}
+use Rattle.frames.specs.Frames.{frameFromZero, frameSeconds}
+use Rattle.envelope.specs.Levels.{loud}
+use Rattle.last_run.specs.declared.FrameRun.{FrameRun}
+use Rattle.last_run.specs.declared.FrameRun.the-variants.{Frames, NoFrames}
+use Rattle.last_run.specs.declared.Run.{Run}
+use Rattle.last_run.specs.declared.Run.the-variants.{Sound, Nothing}
+
+-- ---- MIN_RUN: the last frame of a run that counts lies so many frames behind the first, or more.
+abbrev pub minRun : ℕ
+minRun = 3
+
+-- ---- let mut end = -1; let mut start = -1;
+pub record Ends : Type 0 where
+  pub end : ℤ
+  pub start : ℤ
+
+-- ---- if env.loud(k) { if end < 0 { end = k; } start = k; } else if end >= 0 && start - k > END_SILENCE as i64 { break; }
+abbrev pub backStep : Bool → ℤ → Ends → Turn Ends
+backStep isLoud k s =
+    cond isLoud (on (record { end = cond (ltZ (s .end) (pos 0)) k (s .end); start = k }))
+    (cond (nonNeg (s .end) && ltZ (pos endSilence) (s .start -ℤ k)) (out s) (on s))
+
+abbrev pub backTurn : List Bool → ℤ → Ends → Turn Ends
+backTurn row k s = backStep (loud row k) k s
+
+-- ---- let mut k = hi - 1; while k >= lo { .. k -= 1; }
+unfoldable pub endsBetween : List Bool → ℤ → ℤ → Ends
+endsBetween row lo hi = rangeBack (backTurn row) (hi -ℤ pos 1) lo (record { end = negsuc 0; start = negsuc 0 })
+
+-- ---- if end < 0 || end - start < MIN_RUN { return None; }: the first and the last frame of the run, or none.
+unfoldable pub framesOf : Ends → FrameRun
+framesOf s = cond (ltZ (s .end) (pos 0) || ltZ (s .end -ℤ s .start) (pos minRun)) NoFrames (Frames (toNat (s .start)) (toNat (s .end)))
+
+-- ---- The last run of the frames from lo to before hi.
+unfoldable pub frameRun : List Bool → ℤ → ℤ → FrameRun
+frameRun row lo hi = framesOf (endsBetween row lo hi)
+
+-- ---- Some((frame_seconds(start), frame_seconds(end + 1)))
+abbrev pub secondsOf : FrameRun → Run
+secondsOf (Frames first last) = Sound (frameSeconds (pos first)) (frameSeconds (pos last +ℤ pos 1))
+secondsOf NoFrames = Nothing
+
+-- ---- last_run: let lo = frame_from_zero(from); let mut k = env.frames().min(frame_from_zero(to)) - 1;
+unfoldable pub lastRun : List Bool → Float → Float → Run
+lastRun row from to = secondsOf (frameRun row (frameFromZero from) (minZ (pos (length row)) (frameFromZero to)))
