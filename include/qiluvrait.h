@@ -3,8 +3,8 @@
  *
  * The functions of the static library libc_api.a (`rt staticlib c_api` makes it), for C99 and C++.
  * Each takes every value of its arguments, keeps no state, reads and writes no memory but what it is
- * lent, and may be called from several threads at once. Where NaN is returned, its sign and payload
- * are free. A pointer is lent with the number of its elements, and no two lent parts overlap.
+ * lent, and may be called from several threads at once. Where NaN is returned or written, its
+ * sign and payload are free. A pointer is lent with the number of its elements, and no two lent parts overlap.
  *
  * A call that can refuse answers a refusal: 0 where it accepts, else document 01's number, and then
  * lent memory keeps its bits. Here: 1 a time outside its range, 2 letters or units outside theirs,
@@ -251,7 +251,8 @@ struct qiluvrait_run qiluvrait_last_run(const double *levels, size_t levels_len,
  * and the duration. A word that starts in silence starts where three frames in a row are loud, searched up to
  * 1.5 s ahead and to 0.05 s before the next word, and keeps at most 0.5 s of its length. No word runs into
  * the next one. Crushed words are evened (qiluvrait_even_out) without a limit. Then each word's sound is
- * searched from its start to the next word's start, or to the duration: it ends before 15 quiet frames. An
+ * searched from its start to the next word's start, or to the duration: it ends before 15 quiet frames. A
+ * word in which no frame is loud stays as it is in this step. An
  * end that lies more than 0.05 s past it is cut back, where that leaves the word 0.05 s for each letter, or
  * 0.3 s. A word lasts until the next one where no 15 quiet frames lie between, and the last one until its
  * sound's end. Crushed words are evened again, with the duration as limit. The duration, in seconds, is among
@@ -269,7 +270,7 @@ uint32_t qiluvrait_fit_to_sound(double *starts, size_t starts_len, double *ends,
  * place of the spans; a word whose number has no span stays as it is. The words of a phrase are fitted
  * (qiluvrait_fit_to_sound) with the sooner of count / 16000 and the span's end as duration, and kept inside
  * the span, 0.04 s long at the least. A last run of sound that starts more than 0.15 s after the last word,
- * before the span's end, becomes the last word's. Then the phrase's words are evened, with the span's end as
+ * before the span's end, becomes the last word's, and the word before ends at its start at the latest. Then the phrase's words are evened, with the span's end as
  * limit. A span under 0.04 s puts starts at its end minus 0.04, before its own start. Nothing of a phrase
  * depends on another phrase's words or span. Needs three lists of work space, each as long as the words; what
  * they hold afterwards is free, and after a refusal they are as they were. A phrase list of another length
@@ -285,6 +286,63 @@ uint32_t qiluvrait_fit_file(double *starts, size_t starts_len, double *ends, siz
                             size_t levels_len, double floor, size_t count, double *work_starts,
                             size_t work_starts_len, double *work_ends, size_t work_ends_len,
                             uint32_t *work_letters, size_t work_letters_len);
+
+/*
+ * The tally of each span: the sum, over the words with its number, of the loud frames from that of the start
+ * to before that of the end, both from zero. A frame under two of a span's words counts twice; a word whose
+ * number has no span counts nowhere, and one that ends in the frame in which it starts, or before it, counts 0.
+ * Span p's tally stands at place p; needs one place per span, and further places stay. A phrase list of another
+ * length than the words is refusal 3. Answers 0 where it accepts, else the refusal: 3, 4, 1, 2, 7 or 6. Writes
+ * places.
+ */
+uint32_t qiluvrait_tally(const double *starts, size_t starts_len, const double *ends, size_t ends_len,
+                         const uint32_t *letters, size_t letters_len, const uint32_t *units,
+                         size_t units_len, const uint32_t *keys, size_t keys_len, const uint32_t *phrases,
+                         size_t phrases_len, const double *span_starts, size_t span_starts_len,
+                         const double *span_ends, size_t span_ends_len, const uint32_t *counts,
+                         size_t counts_len, const double *levels, size_t levels_len, double floor,
+                         size_t count, size_t *places, size_t places_len);
+
+/*
+ * What qiluvrait_full_run answers: whether a loop was found, 1 or 0, the number of pieces, the final number of
+ * words, and the floor under the levels; all 0 where it refuses.
+ */
+struct qiluvrait_report {
+    uint32_t refusal;
+    uint32_t found;
+    size_t pieces;
+    size_t words;
+    double floor;
+};
+
+/*
+ * The full run over a recording: its levels and their floor (qiluvrait_envelope), its pieces (qiluvrait_pieces),
+ * and the words through loops, tails, onsets and ends, with samples / 16000 as duration, placing
+ * (qiluvrait_align_phrases) and the fit by phrase (qiluvrait_fit_file). Without spans nothing is placed, and the
+ * words are fitted over the whole recording (qiluvrait_fit_to_sound), with the same duration.
+ *
+ * Needs samples / 160 places in levels; (frames - 1) / 1203 + 1 in piece_starts and in piece_ends, and none for
+ * no frame; a phrase place for every word; and three lists of work space, each as long as the words. Further
+ * places of levels, and places past the pieces, stay. The final words come first in all five lists, and the
+ * places past them become zero. Placing starts from the count that loops left: phrase places up to it hold the
+ * words' phrase numbers, then zeros for the words that were dropped; the places past it stay, and without spans
+ * all do. What the work space holds afterwards is free.
+ *
+ * Refusals: 3, 4, 1, 2, 6. 7 can't arise, for the levels are made here. After a refusal all lent memory is as it
+ * was, the work space too. Writes all lists but the samples and the spans.
+ */
+struct qiluvrait_report qiluvrait_full_run(const float *samples, size_t samples_len, double *starts,
+                                           size_t starts_len, double *ends, size_t ends_len,
+                                           uint32_t *letters, size_t letters_len, uint32_t *units,
+                                           size_t units_len, uint32_t *keys, size_t keys_len,
+                                           const double *span_starts, size_t span_starts_len,
+                                           const double *span_ends, size_t span_ends_len,
+                                           const uint32_t *counts, size_t counts_len, uint32_t *phrases,
+                                           size_t phrases_len, double *levels, size_t levels_len,
+                                           size_t *piece_starts, size_t piece_starts_len,
+                                           size_t *piece_ends, size_t piece_ends_len, double *work_starts,
+                                           size_t work_starts_len, double *work_ends, size_t work_ends_len,
+                                           uint32_t *work_letters, size_t work_letters_len);
 
 #ifdef __cplusplus
 }

@@ -10,8 +10,8 @@ use crate::words::{
     text,
 };
 
-/// What a call is lent: words, spans, places for the words' phrase numbers, these numbers, and work
-/// space.
+/// What a call is lent: words, spans, places for the words' phrase numbers, these numbers, work space,
+/// and a place for each span.
 #[derive(Clone)]
 pub struct Loan {
     pub words: Lent,
@@ -19,6 +19,7 @@ pub struct Loan {
     pub phrases: Places<u32>,
     pub numbers: Places<u32>,
     pub work: Work,
+    pub tallies: Places,
 }
 
 impl Loan {
@@ -32,6 +33,7 @@ impl Loan {
             .or_else(phrases)
             .or_else(numbers)
             .or_else(|| self.work.stay(&before.work))
+            .or_else(|| named("tallies", same(&self.tallies, &before.tallies)))
     }
 }
 
@@ -59,6 +61,7 @@ impl Given {
             phrases: Places::new(n + random.of(&[0, 0, 1, 5])),
             numbers: numbers(n, spans, random),
             work: Work::new([(); 3].map(|()| n + random.of(&[0, 0, 1, 5]))),
+            tallies: Places::new(spans + random.of(&[0, 0, 1, 5])),
         };
         Given {
             loan,
@@ -143,6 +146,7 @@ pub const FAULTS: &[Fault] = &[
     too_few_places,
     another_length_of_numbers,
     too_little_work,
+    too_few_tallies,
 ];
 
 /// Another length than n.
@@ -207,6 +211,7 @@ fn too_many_words(given: &mut Given, random: &mut Random) {
 /// One span too many: spans that are taken, or places that hold their marks.
 fn too_many_spans(given: &mut Given, random: &mut Random) {
     let n = MAX_SPANS + 1;
+    given.loan.tallies = Places::new(random.of(&[n, n, 0, MAX_SPANS]));
     given.loan.spans = if random.below(2) == 0 {
         Spans::new(&spans_of(n, random))
     } else {
@@ -335,4 +340,10 @@ fn too_little_work(given: &mut Given, random: &mut Random) {
         list => lengths[list as usize] = fewer,
     }
     given.loan.work = Work::new(lengths);
+}
+
+/// Fewer places than spans: one fewer, or none.
+fn too_few_tallies(given: &mut Given, random: &mut Random) {
+    let fewer = given.loan.spans.starts.lent().saturating_sub(1);
+    given.loan.tallies = Places::new(random.of(&[fewer, fewer, 0]));
 }

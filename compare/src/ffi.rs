@@ -52,6 +52,17 @@ pub struct Run {
     pub end: f64,
 }
 
+/// The answer of a full run.
+#[repr(C)]
+#[derive(Clone, Copy, Debug)]
+pub struct Report {
+    pub refusal: u32,
+    pub found: u32,
+    pub pieces: usize,
+    pub words: usize,
+    pub floor: f64,
+}
+
 unsafe extern "C" {
     pub safe fn qiluvrait_js_min(a: f64, b: f64) -> f64;
     pub safe fn qiluvrait_js_max(a: f64, b: f64) -> f64;
@@ -228,6 +239,66 @@ unsafe extern "C" {
         work_letters: *mut u32,
         n_work_letters: usize,
     ) -> u32;
+    fn qiluvrait_tally(
+        starts: *const f64,
+        n_starts: usize,
+        ends: *const f64,
+        n_ends: usize,
+        letters: *const u32,
+        n_letters: usize,
+        units: *const u32,
+        n_units: usize,
+        keys: *const u32,
+        n_keys: usize,
+        phrases: *const u32,
+        n_phrases: usize,
+        span_starts: *const f64,
+        n_span_starts: usize,
+        span_ends: *const f64,
+        n_span_ends: usize,
+        counts: *const u32,
+        n_counts: usize,
+        levels: *const f64,
+        n_levels: usize,
+        floor: f64,
+        count: usize,
+        places: *mut usize,
+        n_places: usize,
+    ) -> u32;
+    fn qiluvrait_full_run(
+        samples: *const f32,
+        n_samples: usize,
+        starts: *mut f64,
+        n_starts: usize,
+        ends: *mut f64,
+        n_ends: usize,
+        letters: *mut u32,
+        n_letters: usize,
+        units: *mut u32,
+        n_units: usize,
+        keys: *mut u32,
+        n_keys: usize,
+        span_starts: *const f64,
+        n_span_starts: usize,
+        span_ends: *const f64,
+        n_span_ends: usize,
+        counts: *const u32,
+        n_counts: usize,
+        phrases: *mut u32,
+        n_phrases: usize,
+        levels: *mut f64,
+        n_levels: usize,
+        piece_starts: *mut usize,
+        n_piece_starts: usize,
+        piece_ends: *mut usize,
+        n_piece_ends: usize,
+        work_starts: *mut f64,
+        n_work_starts: usize,
+        work_ends: *mut f64,
+        n_work_ends: usize,
+        work_letters: *mut u32,
+        n_work_letters: usize,
+    ) -> Report;
 }
 
 pub fn envelope(samples: &[f32], levels: &mut Places) -> Heard {
@@ -411,4 +482,93 @@ pub fn fit_file(words: &mut Lent, grouped: &mut Grouped, over: Over) -> u32 {
         work.letters.numbers(),
         work.letters.lent()
     )
+}
+
+pub fn tally(
+    words: &mut Lent,
+    phrases: &mut Places<u32>,
+    spans: &mut Spans,
+    over: Over,
+    places: &mut Places,
+) -> u32 {
+    let (levels, n) = (over.levels.as_ptr(), over.levels.len());
+    of_words!(
+        qiluvrait_tally,
+        words,
+        phrases.numbers(),
+        phrases.lent(),
+        spans.starts.doubles(),
+        spans.starts.lent(),
+        spans.ends.doubles(),
+        spans.ends.lent(),
+        spans.counts.numbers(),
+        spans.counts.lent(),
+        levels,
+        n,
+        over.floor,
+        over.count,
+        places.wholes(),
+        places.lent()
+    )
+}
+
+/// What a full run is lent beside the samples.
+#[derive(Clone)]
+pub struct Lending {
+    pub words: Lent,
+    pub spans: Spans,
+    pub phrases: Places<u32>,
+    pub levels: Places,
+    pub piece_starts: Places,
+    pub piece_ends: Places,
+    pub work: Work,
+}
+
+pub fn full_run(samples: &[f32], lending: &mut Lending) -> Report {
+    let Lending {
+        words,
+        spans,
+        phrases,
+        levels,
+        piece_starts,
+        piece_ends,
+        work,
+    } = lending;
+    // SAFETY: each list is as long as is said, and no one else holds the places.
+    unsafe {
+        qiluvrait_full_run(
+            samples.as_ptr(),
+            samples.len(),
+            words.starts.doubles(),
+            words.starts.lent(),
+            words.ends.doubles(),
+            words.ends.lent(),
+            words.letters.numbers(),
+            words.letters.lent(),
+            words.units.numbers(),
+            words.units.lent(),
+            words.keys.numbers(),
+            words.keys.lent(),
+            spans.starts.doubles(),
+            spans.starts.lent(),
+            spans.ends.doubles(),
+            spans.ends.lent(),
+            spans.counts.numbers(),
+            spans.counts.lent(),
+            phrases.numbers(),
+            phrases.lent(),
+            levels.doubles(),
+            levels.lent(),
+            piece_starts.wholes(),
+            piece_starts.lent(),
+            piece_ends.wholes(),
+            piece_ends.lent(),
+            work.starts.doubles(),
+            work.starts.lent(),
+            work.ends.doubles(),
+            work.ends.lent(),
+            work.letters.numbers(),
+            work.letters.lent(),
+        )
+    }
 }

@@ -67,7 +67,7 @@ impl Filed {
     }
 
     /// What a difference is of.
-    fn describe(&self, text: String) -> String {
+    pub fn describe(&self, text: String) -> String {
         let (kind, n, spans) = (self.kind, self.words.len(), self.spans.len());
         let (under, frames, floor) = (
             self.sound.kind,

@@ -52,7 +52,7 @@ fn same(ours: u64, rust: u64) -> bool {
 }
 
 /// The first level that differs, or the floor.
-fn first_difference(places: &Places, floor: f64, rust: &Envelope) -> Option<String> {
+pub fn first_difference(places: &Places, floor: f64, rust: &Envelope) -> Option<String> {
     let pairs = places.bits().iter().zip(&rust.env);
     let pairs = pairs.map(|(&ours, rust)| (ours, rust.to_bits()));
     let pairs = pairs.chain([(floor.to_bits(), rust.floor.to_bits())]);

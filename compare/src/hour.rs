@@ -61,8 +61,8 @@ fn row(name: &str, runs: usize, ours: &mut dyn FnMut(), rust: &mut dyn FnMut()) 
 }
 
 /// Prints the table: medians over `runs` runs, in milliseconds a call, and ours over the Rust's.
-/// Gives the levels.
-pub fn bench(seed: u64, runs: usize) -> Envelope {
+/// Gives the samples, and their levels.
+pub fn bench(seed: u64, runs: usize) -> (Vec<f32>, Envelope) {
     let samples = speech(seed);
     let frames = samples.len() / HOP;
     let heard = envelope(&samples);
@@ -101,5 +101,5 @@ pub fn bench(seed: u64, runs: usize) -> Envelope {
             black_box(pieces(levels(), samples.len()));
         },
     );
-    heard
+    (samples, heard)
 }

@@ -15,9 +15,9 @@ pub struct Loops;
 const LONGEST_OF_TWO: u32 = 13;
 
 /// A way to draw keys, up to so many, as numbers of a few kinds of word.
-type Draw = fn(usize, &mut Random) -> Vec<u32>;
+pub type Draw = fn(usize, &mut Random) -> Vec<u32>;
 
-const KINDS: &[Draw] = &[few, planted, planted, nested, nested, different];
+pub const KINDS: &[Draw] = &[few, planted, planted, nested, nested, different];
 
 /// Keys of one, two or three kinds.
 fn few(n: usize, random: &mut Random) -> Vec<u32> {

@@ -2,6 +2,7 @@
 
 mod bench;
 mod crushed;
+mod demand3;
 mod even;
 mod even_rule;
 mod faults;
@@ -12,6 +13,11 @@ mod files;
 mod fit_rule;
 mod fit_times;
 mod fitted;
+mod full;
+mod full_hour;
+mod full_refused;
+mod full_rule;
+mod full_run;
 mod heard;
 mod hour;
 mod inputs;
@@ -38,10 +44,13 @@ mod sounds;
 mod spans;
 mod spoken;
 mod stages;
+mod tallied;
+mod tally_rule;
 mod times;
 mod vectors;
 mod vectors_fit;
 mod vectors_lists;
+mod vectors_run;
 mod words;
 mod words_alone;
 mod words_fit;
@@ -68,8 +77,9 @@ const USAGE: &str = "\
 usage: compare [CASES [NAME..]]    compare, CASES random cases of each function of numbers
                                    (10000000), and fewer of the others
        compare bench [RUNS]        time both sides, medians over RUNS runs (15; of an hour 5)
-       compare vectors             write the stored answers of words, the Rust's
-       compare fit-vectors         write those of last runs and of fitted words";
+       compare word-vectors        write the stored answers of words, the Rust's
+       compare fit-vectors         write those of last runs and of fitted words
+       compare run-vectors         write those of full runs";
 
 fn all<T: Compared>(list: &'static [T]) -> impl Iterator<Item = &'static dyn Compared> {
     list.iter().map(|entry| entry as &dyn Compared)
@@ -87,17 +97,23 @@ fn entries() -> Vec<&'static dyn Compared> {
     let entries = entries.chain(all(&[runs::LastRun]));
     let entries = entries.chain(all(&[fitted::Fit]));
     let entries = entries.chain(all(&[filed::ByPhrase]));
+    let entries = entries.chain(all(&[tallied::Tally]));
+    let entries = entries.chain(all(&[full_run::FullRun]));
     let entries = entries.chain(all(pairs::PAIRS));
     let entries = entries.chain(all(planted::PLANTED));
     let entries = entries.chain(all(planted_fit::PLANTED));
+    let entries = entries.chain(all(tallied::PLANTED));
+    let entries = entries.chain(all(full_run::PLANTED));
     let entries = entries.chain(all(&[words_refused::Refused]));
+    let entries = entries.chain(all(&[full_refused::Refused]));
     entries.collect()
 }
 
 fn bench(runs: Option<usize>) -> ExitCode {
     bench::bench(SEED, runs.unwrap_or(RUNS));
-    let heard = hour::bench(SEED, runs.unwrap_or(HOUR_RUNS));
+    let (samples, heard) = hour::bench(SEED, runs.unwrap_or(HOUR_RUNS));
     words_hour::bench(SEED, runs.unwrap_or(HOUR_RUNS), &heard);
+    full_hour::bench(SEED, runs.unwrap_or(HOUR_RUNS), samples, &heard);
     ExitCode::SUCCESS
 }
 
@@ -143,12 +159,16 @@ fn main() -> ExitCode {
     };
     match (arguments.first().map(String::as_str), number(0), number(1)) {
         (None, _, _) => compare(CASES, &[]),
-        (Some("vectors"), _, None) => {
+        (Some("word-vectors"), _, None) => {
             vectors::write();
             ExitCode::SUCCESS
         }
         (Some("fit-vectors"), _, None) => {
             vectors_fit::write();
+            ExitCode::SUCCESS
+        }
+        (Some("run-vectors"), _, None) => {
+            vectors_run::write();
             ExitCode::SUCCESS
         }
         (Some("bench"), _, None) => bench(None),

@@ -8,11 +8,12 @@ use crate::inputs::Random;
 use crate::report::{Case, Compared};
 use crate::text::Cue;
 use crate::words::Lent;
-use crate::{locality, scaling};
+use crate::{demand3, locality, scaling};
 
 /// What two calls are tried on.
 pub struct Pair {
     name: &'static str,
+    weight: u64,
     branches: &'static [&'static str],
     judge: fn(&mut Random) -> Result<Case, Refused>,
 }
@@ -20,13 +21,21 @@ pub struct Pair {
 pub const PAIRS: &[Pair] = &[
     Pair {
         name: "locality",
+        weight: 100,
         branches: locality::BRANCHES,
         judge: locality::judge,
     },
     Pair {
         name: "scaling",
+        weight: 100,
         branches: scaling::BRANCHES,
         judge: scaling::judge,
+    },
+    Pair {
+        name: "demand3",
+        weight: 50,
+        branches: demand3::BRANCHES,
+        judge: demand3::judge,
     },
 ];
 
@@ -80,7 +89,7 @@ impl Compared for Pair {
     }
 
     fn weight(&self) -> u64 {
-        100
+        self.weight
     }
 
     fn branches(&self) -> Vec<String> {

@@ -29,7 +29,7 @@ pub const OF_ROWS: &[OfRow] = &[
 ];
 
 /// The places that the pieces of so many frames need.
-fn need(frames: usize) -> usize {
+pub fn need(frames: usize) -> usize {
     frames.saturating_sub(1) / 1203 + usize::from(frames > 0)
 }
 
@@ -45,7 +45,7 @@ fn refusal(levels: usize, count: usize, [starts, ends]: [usize; 2]) -> u32 {
 }
 
 /// The first piece that differs.
-fn first_difference(rust: &[(usize, usize)], starts: &Places, ends: &Places) -> Option<String> {
+pub fn first_difference(rust: &[(usize, usize)], starts: &Places, ends: &Places) -> Option<String> {
     let at = |n: usize| (starts.bits()[n] as usize, ends.bits()[n] as usize);
     let n = (0..rust.len()).find(|&n| at(n) != rust[n])?;
     let (ours, rust) = (at(n), rust[n]);

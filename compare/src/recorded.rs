@@ -68,6 +68,13 @@ impl Recorded {
         Recorded { sound, samples }
     }
 
+    /// These samples, whose loud frames are those that the Rust finds.
+    pub fn heard(samples: Vec<f32>) -> Recorded {
+        let heard = envelope(&samples);
+        let loud = (0..heard.frames()).map(|frame| heard.loud(frame));
+        Recorded::of(loud.collect(), samples)
+    }
+
     /// A recording with pauses, or, seldom, all loud, all quiet, or with a NaN or an infinity.
     pub fn random(random: &mut Random) -> Recorded {
         let frames = frames(random);

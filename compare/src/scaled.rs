@@ -38,10 +38,14 @@ impl Heard {
         }
     }
 
-    /// Whether there is no frame, or a level reaches 1e-9.
     fn reaches(&self) -> bool {
-        self.levels.is_empty() || self.levels.iter().any(|&level| level >= LEAST)
+        reaches(&self.levels)
     }
+}
+
+/// Whether there is no frame, or a level reaches 1e-9.
+pub fn reaches(levels: &[f64]) -> bool {
+    levels.is_empty() || levels.iter().any(|&level| level >= LEAST)
 }
 
 /// Both recordings as they are heard, and what the second one is of the first.
@@ -55,7 +59,7 @@ pub struct Scaled {
 }
 
 /// The samples times 2^power, or none where one of them isn't exact. Either zero stands for a zero.
-fn times(samples: &[f32], power: i32, turned: bool, random: &mut Random) -> Option<Vec<f32>> {
+pub fn times(samples: &[f32], power: i32, turned: bool, random: &mut Random) -> Option<Vec<f32>> {
     let sign = if turned { -1.0 } else { 1.0 };
     let by = sign * 2f64.powi(power);
     let zeros = random.bits();

@@ -144,7 +144,7 @@ const KINDS: &[(&str, Draw)] = &[
 
 /// Bursts of up to 3, 12 or 40 frames with quiet runs between: of lengths around 8, where a search
 /// ends, of a few frames, and of up to 60.
-fn bursts(loud: &mut [bool], random: &mut Random) {
+pub fn bursts(loud: &mut [bool], random: &mut Random) {
     let longest = random.of(&[3, 12, 12, 40]);
     let mut at = random.below(10) as usize;
     while at < loud.len() {

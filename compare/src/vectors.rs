@@ -1,4 +1,4 @@
-//! Writes the stored answers of words: rows for crates/vectors, with the answers of the Rust.
+//! Writes the stored answers of words: rows for crates/word_vectors, with the answers of the Rust.
 
 use crate::check::{HeardWord, Text};
 use crate::recordings::HOP;
@@ -104,7 +104,7 @@ pub fn word(start: f64, end: f64, letters: u32) -> HeardWord {
 }
 
 /// The levels of the bursts, over a floor of 0.5.
-fn levels(bursts: &[(usize, usize)]) -> Envelope {
+pub fn levels(bursts: &[(usize, usize)]) -> Envelope {
     let mut env = vec![0.0; FRAMES];
     for &(first, past) in bursts {
         env[first..past].fill(1.0);
@@ -113,7 +113,7 @@ fn levels(bursts: &[(usize, usize)]) -> Envelope {
 }
 
 /// The loud frames as bits, the lowest first.
-fn bits(levels: &Envelope) -> u64 {
+pub fn bits(levels: &Envelope) -> u64 {
     let loud = (0..FRAMES).filter(|&frame| levels.env[frame] > levels.floor);
     loud.map(|frame| 1 << frame).sum()
 }

@@ -1,5 +1,5 @@
-//! Writes the stored answers of evening and placing: rows for crates/vectors, with the answers of
-//! the Rust.
+//! Writes the stored answers of evening and placing: rows for crates/word_vectors, with the
+//! answers of the Rust.
 //!
 //! A row has one to seven words, of 1, 2, 1, 2 .. letters and one unit each, with key 1. Its first
 //! number has 16 digits: the number of words, what is asked, and for each word a digit for its start

@@ -9,6 +9,7 @@ use crate::file_rule::{To, fit_phrases};
 use crate::inputs::Random;
 use crate::places::Places;
 use crate::recordings::MAX_SAMPLES;
+use crate::tally_rule::tallies;
 use crate::text::Cue;
 use crate::transcript::envelope::Envelope;
 use crate::transcript::fit::{fit_to_sound, last_run};
@@ -91,6 +92,32 @@ fn files(name: &str, runs: usize, given: &Phrased, heard: &Envelope) {
     );
 }
 
+/// A row of the tally, with document 01's stand-in for the Rust. Both make the places of the tallies
+/// within their time.
+fn tally(name: &str, runs: usize, given: &Phrased, heard: &Envelope) {
+    let lent = RefCell::new((
+        Places::holding(given.phrases.iter().copied()),
+        Spans::new(given.spans),
+    ));
+    let ours = |words: &mut Lent| {
+        let (phrases, spans) = &mut *lent.borrow_mut();
+        let mut places = Places::new(spans.starts.lent());
+        let over = black_box(over(heard));
+        black_box(ffi::tally(words, phrases, spans, over, &mut places));
+        black_box(places);
+    };
+    let to = To {
+        phrases: given.phrases,
+        spans: given.spans,
+        heard,
+        count: MAX_SAMPLES,
+    };
+    let rust = |words: &mut [HeardWord]| {
+        black_box(tallies(words, black_box(to)));
+    };
+    row(&format!("tally, {name}"), runs, given.words, &ours, &rust);
+}
+
 /// The number of each word, where each span takes its count of them.
 fn numbers(spans: &[Cue]) -> Vec<u32> {
     let each = |(number, span): (usize, &Cue)| vec![number as u32; span.text.count as usize];
@@ -128,6 +155,7 @@ pub fn bench(
         spans: &spans,
     };
     files("ordinary", runs, &given, heard);
+    tally("ordinary", runs, &given, heard);
     let given = Phrased {
         words,
         phrases: &[0; MAX_WORDS],
@@ -141,4 +169,9 @@ pub fn bench(
         spans: &own,
     };
     files("a phrase each", runs, &given, loud);
+    let over_all = Phrased {
+        words: &each(|_| (0.0, HOUR)),
+        ..given
+    };
+    tally("each word over the hour", runs, &over_all, loud);
 }

@@ -56,7 +56,7 @@ fn bursts(heard: &Envelope) -> Vec<(i64, i64)> {
 
 /// Words as they are heard: one for each burst, which starts up to 80 ms late and ends up to 0.3 s
 /// late, or, one in sixteen, has no length. Once in 50 words, one is said four times.
-fn ordinary(heard: &Envelope, random: &mut Random) -> Vec<HeardWord> {
+pub fn ordinary(heard: &Envelope, random: &mut Random) -> Vec<HeardWord> {
     let bursts = bursts(heard);
     assert!(bursts.len() > MAX_WORDS, "{} bursts", bursts.len());
     let mut words = Vec::new();

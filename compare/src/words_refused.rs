@@ -28,8 +28,12 @@ struct Call {
     spans: bool,
     /// Whether it takes phrase places.
     places: bool,
-    /// Whether it takes phrase numbers, and work space.
+    /// Whether it takes phrase numbers.
     groups: bool,
+    /// Whether it takes work space.
+    works: bool,
+    /// Whether it takes a place for each span.
+    tallies: bool,
     /// The refusals that it knows.
     refusals: &'static [u32],
     ours: fn(&mut Loan, &Given) -> Left,
@@ -46,11 +50,13 @@ const WORDS: Call = Call {
     spans: false,
     places: false,
     groups: false,
+    works: false,
+    tallies: false,
     refusals: &[3, 4, 1, 2],
     ours: |loan, _| ffi::collapse_loops(&mut loan.words),
 };
 
-static CALLS: [Call; 9] = [
+static CALLS: [Call; 10] = [
     WORDS,
     Call {
         name: "hand_back_tails",
@@ -116,8 +122,19 @@ static CALLS: [Call; 9] = [
         hears: true,
         spans: true,
         groups: true,
+        works: true,
         refusals: &[3, 4, 1, 2, 7, 6],
         ours: |loan, given| refusing(fit(loan, given)),
+        ..WORDS
+    },
+    Call {
+        name: "tally",
+        hears: true,
+        spans: true,
+        groups: true,
+        tallies: true,
+        refusals: &[3, 4, 1, 2, 7, 6],
+        ours: |loan, given| refusing(tally(loan, given)),
         ..WORDS
     },
 ];
@@ -171,6 +188,18 @@ fn fit(loan: &mut Loan, given: &Given) -> u32 {
     refusal
 }
 
+/// The answer of the tally.
+fn tally(loan: &mut Loan, given: &Given) -> u32 {
+    let Loan {
+        words,
+        spans,
+        numbers,
+        tallies,
+        ..
+    } = loan;
+    ffi::tally(words, numbers, spans, given.over(), tallies)
+}
+
 /// The answer of a refusal: its number, and nothing found or left.
 fn refusing(refusal: u32) -> Left {
     Left {
@@ -185,26 +214,26 @@ fn outside(bits: &u64) -> bool {
     !(-LAST..=LAST).contains(&t)
 }
 
-fn any_outside(starts: &Places, ends: &Places) -> bool {
+pub fn any_outside(starts: &Places, ends: &Places) -> bool {
     let lent = |list: &Places| list.bits()[..list.lent()].iter().any(outside);
     lent(starts) || lent(ends)
 }
 
 /// Whether the lists of words differ in length.
-fn words_differ(words: &Lent) -> bool {
+pub fn words_differ(words: &Lent) -> bool {
     let n = words.starts.lent();
     let numbers = [&words.letters, &words.units, &words.keys];
     words.ends.lent() != n || numbers.iter().any(|list| list.lent() != n)
 }
 
 /// Whether the lists of spans differ in length.
-fn spans_differ(spans: &Spans) -> bool {
+pub fn spans_differ(spans: &Spans) -> bool {
     let n = spans.starts.lent();
     spans.ends.lent() != n || spans.counts.lent() != n
 }
 
 /// Whether a number in the list is more than is taken, or less.
-fn any_off(list: &Places<u32>, least: u32, most: u32) -> bool {
+pub fn any_off(list: &Places<u32>, least: u32, most: u32) -> bool {
     let off = |&x: &u32| x < least || x > most;
     list.bits()[..list.lent()].iter().any(off)
 }
@@ -263,13 +292,17 @@ impl Given {
     fn too_few(&self, call: &Call) -> bool {
         let Loan {
             words,
+            spans,
             phrases,
             work,
+            tallies,
             ..
         } = &self.loan;
         let n = words.starts.lent();
         let work = [work.starts.lent(), work.ends.lent(), work.letters.lent()];
-        call.places && phrases.lent() < n || call.groups && work.iter().any(|&lent| lent < n)
+        call.places && phrases.lent() < n
+            || call.works && work.iter().any(|&lent| lent < n)
+            || call.tallies && tallies.lent() < spans.starts.lent()
     }
 
     /// Document 01's refusal; 0 where there is none.

@@ -23,7 +23,7 @@ use Rattle.base.specs.declared.NextStart.{NextStart}
 use Rattle.base.specs.declared.NextStart.the-variants.{Starts, NoNext}
 use Rattle.base.specs.declared.SoundEnd.{SoundEnd}
 use Rattle.base.specs.declared.SoundEnd.the-variants.{Ends, NoSound}
-use Rattle.base.proofs.Loops.{Holds, run-holds, each-holds}
+use Rattle.base.proofs.Loops.{Holds, run-holds, each-holds, each-keeps}
 use Rattle.base.proofs.Most.{Most, round-most, held}
 use Rattle.base.proofs.Values.{whole-int, add-whole, div-whole}
 use Rattle.js.specs.Js.{jsMin, jsMax, nearestUp, jsToFixed}
@@ -260,6 +260,13 @@ turn-long row duration units i es = go (isPair (nextStart (es .starts) i) (times
         × (length (cond p (edges (set (set (es .starts) i (t .start)) (i + 1) (t .end)) (set (es .ends) i (t .end))) (setTimes es i v) .ends) ≡ length (es .ends))
     go true t v = (length-set (set (es .starts) i (t .start)) (i + 1) (t .end) ∙ length-set (es .starts) i (t .start), length-set (es .ends) i (t .end))
     go false t v = (length-set (es .starts) i (v .start), length-set (es .ends) i (v .end))
+
+pub ends-long : (row : List Bool) (duration : Float) (units : List ℕ) (es : Edges) → (length (snapEnds row duration units es .starts) ≡ length (es .starts)) × (length (snapEnds row duration units es .ends) ≡ length (es .ends))
+unfolding snapEnds
+ends-long row duration units es = (
+  each-keeps (λ (s : Edges). length (s .starts)) (endTurn row duration units) (λ i s. turn-long row duration units i s .0) (length (es .starts)) 0 es,
+  each-keeps (λ (s : Edges). length (s .ends)) (endTurn row duration units) (λ i s. turn-long row duration units i s .1) (length (es .starts)) 0 es,
+)
 
 -- ---- all words: before turn i each time is within b + i × growth sixty-fourths
 record Before (b n i : ℕ) (es : Edges) : Type 0 where

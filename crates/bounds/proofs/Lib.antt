@@ -14,3 +14,5 @@ pub mod Evening
 pub mod Fitting
 pub mod Phrasing
 pub mod Small
+pub mod Running
+pub mod InBits

@@ -20,7 +20,7 @@ module _ {A : Type 0} (P : A → Type 0) (d : A) where
   pub each-append : (xs ys : List A) → Each xs → Each ys → Each (xs ++ ys)
   each-append xs ys h k = all-at P d (xs ++ ys) (all-append P xs ys (at-all P d xs h) (at-all P d ys k))
 
-  each-take : (n : ℕ) (xs : List A) → Each xs → Each (take n xs)
+  pub each-take : (n : ℕ) (xs : List A) → Each xs → Each (take n xs)
   each-take n xs h i l = let m = length-take n xs in subst P (sym (getD-take n xs i d (omega arith))) (h i (omega arith))
 
   each-drop : (n : ℕ) (xs : List A) → Each xs → Each (drop n xs)

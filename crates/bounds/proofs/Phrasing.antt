@@ -1,4 +1,4 @@
--- In the fit by phrase a time grows as by fit_to_sound, by 0.04 s more for each word, for a word kept inside its span is made to last so long, and by one evening more. A span's
+-- In the fit by phrase a time grows as by fit_to_sound, by 0.04 s more, for a word kept inside its span is made to last so long, and by one evening more. A span's
 -- edges are within the range of times, and a run of sound lies in the row. A word is fitted once, in its own phrase's turn, from the times given. Assumes nothing.
 use Prim.Native.Nat.{ℕ, zero, suc, _+_, _-_, _*_, _<_, _≤_, _^_}
 use mathlib.Core.Bool.{Bool, true, false, cond, _&&_, _||_}
@@ -12,6 +12,7 @@ use lib.IntN.{ℤ, pos, negsuc, natAbs, _-ℤ_, _+ℤ_}
 use lib.Dec.{eqb, ltb, lit≤}
 use lib.Signed.{ltZ, nonNeg}
 use lib.ListN.{length, getD, set, length-set, length-append}
+use lib.Seq.{getD-set-other}
 use lib.Ieee.{Float, nan, ofBits, lt}
 use Rattle.base.specs.Whole.{toNat, minZ}
 use Rattle.base.specs.Loop.{on, out, each}
@@ -53,24 +54,17 @@ word-under : UnderIn steps shortest minWord
 unfolding ofBits
 word-under = lit≤ tt
 
--- ---- kept inside the span: each turn adds 0.04 s
-module _ (span : Times) (b : ℕ) (s : TimesUnder b span) (n : ℕ) where
-  inside-turn : (c i : ℕ) (es : Edges) → b + shortest ≤ c → c + shortest < 2 ^ 53 → i < n → Timed n c es → Timed n (c + shortest) (insideTurn span i es)
-  unfolding insideTurn insideSpan
-  inside-turn c i es B C l t =
-      set-timed n (c + shortest) i es (insideSpan span w) (timed-more n c (c + shortest) es (omega arith) t) (
-        under-more steps c (c + shortest) start (omega arith) start-under,
-        min-under steps (c + shortest) (jsMax (w .end) (start ⊕ minWord)) (span .end)
-            (max-under steps (c + shortest) (w .end) (start ⊕ minWord) (under-more steps c (c + shortest) (w .end) (omega arith) (u .1)) (add-under 40 (lit≤ tt) c shortest start minWord C start-under word-under))
-            (under-more steps b (c + shortest) (span .end) (omega arith) (s .1)),
-      )
+-- ---- kept inside the span: a word's times grow by 0.04 s, once, in its own turn
+module _ (span : Times) (b : ℕ) (s : TimesUnder b span) (n c : ℕ) (B : b + shortest ≤ c) (C : c + shortest < 2 ^ 53) where
+  inside-word : (w : Times) → TimesUnder c w → TimesUnder (c + shortest) (insideSpan span w)
+  unfolding insideSpan
+  inside-word w u = (
+    under-more steps c (c + shortest) start (omega arith) start-under,
+    min-under steps (c + shortest) (jsMax (w .end) (start ⊕ minWord)) (span .end)
+        (max-under steps (c + shortest) (w .end) (start ⊕ minWord) (under-more steps c (c + shortest) (w .end) (omega arith) (u .1)) (add-under 40 (lit≤ tt) c shortest start minWord C start-under word-under))
+        (under-more steps b (c + shortest) (span .end) (omega arith) (s .1)),
+  )
     where
-      w : Times
-      w = timesAt es i
-
-      u : TimesUnder c w
-      u = at-timed n c i es l t
-
       start : Float
       start = jsMin (jsMax (w .start) (span .start)) (span .end ⊖ minWord)
 
@@ -79,12 +73,30 @@ module _ (span : Times) (b : ℕ) (s : TimesUnder b span) (n : ℕ) where
           min-under steps c (jsMax (w .start) (span .start)) (span .end ⊖ minWord) (max-under steps c (w .start) (span .start) (u .0) (under-more steps b c (span .start) (omega arith) (s .0)))
           (under-more steps (b + shortest) c (span .end ⊖ minWord) B (sub-under 40 (lit≤ tt) b shortest (span .end) minWord (omega arith) (s .1) word-under))
 
-  inside-under : (c : ℕ) (es : Edges) → b + shortest ≤ c → c + shortest * n < 2 ^ 53 → Timed n c es → Timed n (c + shortest * n) (keepInside span es)
+  -- before turn i the words from i on are as they were given
+  record Waiting (i : ℕ) (es : Edges) : Type 0 where
+    all : Timed n (c + shortest) es
+    rest : (j : ℕ) → i ≤ j → j < n → TimesUnder c (timesAt es j)
+
+  inside-turn : (i : ℕ) (es : Edges) → i < n → Waiting i es → Waiting (suc i) (insideTurn span i es)
+  unfolding insideTurn
+  inside-turn i es l h = record {
+    all = set-timed n (c + shortest) i es w (h .all) (inside-word (timesAt es i) (h .rest i (omega arith) l));
+    rest = λ j k m. (
+      subst (UnderIn steps c) (sym (getD-set-other (es .starts) i j (w .start) nan (λ e. omega (arith, k, e)))) (h .rest j (omega arith) m .0),
+      subst (UnderIn steps c) (sym (getD-set-other (es .ends) i j (w .end) nan (λ e. omega (arith, k, e)))) (h .rest j (omega arith) m .1),
+    );
+  }
+    where
+      w : Times
+      w = insideSpan span (timesAt es i)
+
+  inside-under : (es : Edges) → Timed n c es → Timed n (c + shortest) (keepInside span es)
   unfolding keepInside
-  inside-under c es B C t =
-      each-holds (λ (i : ℕ) (s : Edges). Timed n (c + shortest * i) s) (insideTurn span) n
-      (λ i s l p. timed-more n (c + shortest * i + shortest) (c + shortest * suc i) (insideTurn span i s) (omega arith) (inside-turn (c + shortest * i) i s (omega arith) (omega arith) l p))
-      (length (es .starts)) 0 es (omega (arith, t .starts-long)) (timed-more n c (c + shortest * 0) es (omega arith) t)
+  inside-under es t =
+      each-holds Waiting (insideTurn span) n inside-turn (length (es .starts)) 0 es (omega (arith, t .starts-long))
+      (record { all = timed-more n c (c + shortest) es (omega arith) t; rest = λ j k m. at-timed n c j es m t })
+      .all
 
 -- ---- the last run lies in the row
 module _ (row : List Bool) (short : length row ≤ 360000) (c : ℕ) (large : 3600 * steps ≤ c) where
@@ -190,26 +202,26 @@ module _ (row : List Bool) (short : length row ≤ 360000) (c : ℕ) (large : 36
           sound true = take-under n last (times start end) es u t
           sound false = t
 
--- ---- a phrase: so much for each word, and a slow pace once
+-- ---- a phrase: so much for each word, a slow pace once, and 0.04 s once
 abbrev pub haul : ℕ
-haul = drift + shortest + stray
+haul = drift + stray
 
 module _ (letters : List ℕ) (ls : AllFrom 1 1000 letters) (few : length letters ≤ 4096) (row : List Bool) (short : length row ≤ 360000) (duration : Float) (span : Times) (b : ℕ) (large : 3601 * steps ≤ b)
-    (wide : b + 2 * slowest + haul * length letters ≤ farthest) (d : UnderIn steps b duration) (s : TimesUnder b span) where
-  pub group-under : (es : Edges) → Timed (length letters) b es → Timed (length letters) (b + slowest + haul * length letters) (fitGroup row duration span letters es)
+    (wide : b + 2 * slowest + haul * length letters + shortest ≤ farthest) (d : UnderIn steps b duration) (s : TimesUnder b span) where
+  pub group-under : (es : Edges) → Timed (length letters) b es → Timed (length letters) (b + slowest + haul * length letters + shortest) (fitGroup row duration span letters es)
   unfolding fitGroup
   group-under es t =
       let n : ℕ = length letters in
       let c : ℕ = b + slowest + drift * n in
-      let c′ : ℕ = c + shortest * n in
+      let c′ : ℕ = c + shortest in
       let limit : Float = jsMin duration (span .end) in
       let fitted : Edges = fitToSound row limit letters es in
       let inside : Edges = keepInside span fitted in
       let taken : Edges = takeTrailing row (span .end) inside in
       let t₁ : Timed n c fitted = fit-under letters ls few row short limit b large (omega arith) (min-under steps b duration (span .end) d (s .1)) es t in
-      let t₂ : Timed n c′ inside = inside-under span b s n c fitted (omega arith) (omega arith) t₁ in
+      let t₂ : Timed n c′ inside = inside-under span b s n c (omega arith) (omega arith) fitted t₁ in
       let t₃ : Timed n c′ taken = trailing-under row short c′ (omega arith) (span .end) n inside t₂ in
-      timed-more n (c′ + 0 + stray * n) (b + slowest + haul * n) (evenOut letters (span .end) taken) (omega arith)
+      timed-more n (c′ + 0 + stray * n) (b + slowest + haul * n + shortest) (evenOut letters (span .end) taken) (omega arith)
       (even-under letters ls few (span .end) c′ 0 (inr (under-more steps b (c′ + 0) (span .end) (omega arith) (s .1))) (omega arith) (omega arith) taken t₃)
 
 -- ---- the words of phrase p, among n words
@@ -276,13 +288,13 @@ file-long row duration letters phrases spans es =
 
 -- ---- all words: each is fitted with its phrase, or stays
 module _ (letters : List ℕ) (ls : AllFrom 1 1000 letters) (few : length letters ≤ 4096) (row : List Bool) (short : length row ≤ 360000) (duration : Float) (phrases : List ℕ) (spans : Edges) (b : ℕ)
-    (large : 3601 * steps ≤ b) (wide : b + 2 * slowest + haul * length letters ≤ farthest) (d : UnderIn steps b duration)
+    (large : 3601 * steps ≤ b) (wide : b + 2 * slowest + haul * length letters + shortest ≤ farthest) (d : UnderIn steps b duration)
     (ss : (p : ℕ) → p < length (spans .starts) → TimesUnder b (timesAt spans p)) (es : Edges) (t : Timed (length letters) b es) where
   abbrev n : ℕ
   n = length letters
 
   abbrev top : ℕ
-  top = b + slowest + haul * length letters
+  top = b + slowest + haul * length letters + shortest
 
   after : Edges
   after = fitFile row duration letters phrases spans es
@@ -309,8 +321,8 @@ module _ (letters : List ℕ) (ls : AllFrom 1 1000 letters) (few : length letter
       go : (v : Bool) → Timed (length ms) top (cond v (pickedEdges ms es) (fitGroup row duration (timesAt spans p) mine (pickedEdges ms es)))
       go true = timed-more (length ms) b top (pickedEdges ms es) (omega arith) group
       go false =
-          timed-more (length ms) (b + slowest + haul * length mine) top (fitGroup row duration (timesAt spans p) mine (pickedEdges ms es)) (omega (arith, many, ms-few))
-          (subst (λ (k : ℕ). Timed k (b + slowest + haul * length mine) (fitGroup row duration (timesAt spans p) mine (pickedEdges ms es))) many
+          timed-more (length ms) (b + slowest + haul * length mine + shortest) top (fitGroup row duration (timesAt spans p) mine (pickedEdges ms es)) (omega (arith, many, ms-few))
+          (subst (λ (k : ℕ). Timed k (b + slowest + haul * length mine + shortest) (fitGroup row duration (timesAt spans p) mine (pickedEdges ms es))) many
           (group-under mine (picked-each phrases n p 0 (λ (k : ℕ). (1 ≤ k) × (k ≤ 1000)) letters ls) (omega (arith, many, ms-few)) row short duration (timesAt spans p) b large (omega (arith, many, ms-few)) d (ss p h)
           (pickedEdges ms es) (subst (λ (k : ℕ). Timed k b (pickedEdges ms es)) (sym many) group)))
 
@@ -345,7 +357,7 @@ module _ (letters : List ℕ) (ls : AllFrom 1 1000 letters) (few : length letter
             subst (UnderIn steps top) (ap (λ (x : Times). x .end) (sym e)) (under-more steps b top (getD (es .ends) i nan) (omega arith) (u .1)),
           )
 
-  pub file-under : Timed (length letters) (b + slowest + haul * length letters) (fitFile row duration letters phrases spans es)
+  pub file-under : Timed (length letters) (b + slowest + haul * length letters + shortest) (fitFile row duration letters phrases spans es)
   unfolding after
   file-under = record {
     starts-long = starts-long;

@@ -1,6 +1,6 @@
 -- Every time stays finite and below 2^13 in size, through each of collapse_loops, hand_back_tails, snap_onsets and snap_ends, through them in a row, and through each of
 -- align_phrases, even_out, fit_to_sound and the fit by phrase. Times start within 7,200 s. Loops raise none, onsets add 1 sixty-fourth, and ends 10 for each of 4,096 words:
--- 501,761 of 524,288. Placing adds less than 2^-27 s, and evening 120 s and less than 2^-15 s. Fitting to sound adds less than 202 s, and by phrase less than 366 s. Assumes nothing.
+-- 501,761 of 524,288. Placing adds less than 2^-27 s, and evening 120 s and less than 2^-15 s. Fitting to sound adds less than 202 s, as one or by phrase. Assumes nothing.
 use Prim.Native.Nat.{ℕ, zero, suc, _+_, _-_, _*_, _/_, _<_, _≤_, _^_}
 use mathlib.Core.Bool.{Bool, true, false, _&&_, _||_, true≢false}
 use mathlib.Core.List.{List}
@@ -43,21 +43,21 @@ use Rattle.fit_to_sound.proofs.Calls as fit
 use Rattle.fit_phrases.specs.FitPhrases.{fitFile}
 use Rattle.fit_file.specs.Calls.{durationOf, fitFileCall}
 use Rattle.fit_file.proofs.Calls as file
-use Rattle.bounds.specs.Bounds.{Small, SmallTimes, UnderIn, EdgesUnderIn, EdgesUnder}
+use Rattle.bounds.specs.Bounds.{Small, SmallTimes, UnderIn, EdgesUnderIn, Under, EdgesUnder}
 use Rattle.bounds.proofs.Rounding.{under-more, under-finer}
 use Rattle.bounds.proofs.Seconds.{plus-under}
 use Rattle.bounds.proofs.Tailing.{tails-under, tails-long}
 use Rattle.bounds.proofs.Onsetting.{onsets-under, onsets-long}
-use Rattle.bounds.proofs.Ending.{growth, ends-under}
-use Rattle.bounds.proofs.Parted.{Each}
+use Rattle.bounds.proofs.Ending.{growth, ends-long, ends-under}
+use Rattle.bounds.proofs.Parted.{Each, edges-more}
 use Rattle.bounds.proofs.Sharing.{steps, stray, Timed}
 use Rattle.bounds.proofs.Placing.{align-under}
 use Rattle.bounds.proofs.Evening.{slowest, Limit, even-under}
 use Rattle.bounds.proofs.Fitting.{drift, fit-under}
-use Rattle.bounds.proofs.Phrasing.{haul, file-under}
+use Rattle.bounds.proofs.Phrasing.{shortest, haul, file-under}
 
 -- ---- below 2^13 seconds are 2^13 × d of the d-ths
-small-under : (d b : ℕ) (x : Float) → b < 2 ^ 13 * d → UnderIn d b x → Small x
+pub small-under : (d b : ℕ) (x : Float) → b < 2 ^ 13 * d → UnderIn d b x → Small x
 small-under d b nan l h = h
 small-under d b (inf s) l h = h
 small-under d b (fin s m e) l h = below (m * up e) (down e) (down-pos e) h
@@ -65,7 +65,7 @@ small-under d b (fin s m e) l h = below (m * up e) (down e) (down-pos e) h
     below : (X E : ℕ) → 0 < E → X * d ≤ b * E → X < 2 ^ 13 * E
     below X E p h = lt-of-mul-lt-mul-right d (let r : suc b * E ≤ 2 ^ 13 * d * E = mul-le-mul-right E l in omega arith)
 
-edges-small : (d b : ℕ) (es : Edges) (ws : Words) → b < 2 ^ 13 * d → EdgesUnderIn d b es → SmallTimes (withEdges es ws)
+pub edges-small : (d b : ℕ) (es : Edges) (ws : Words) → b < 2 ^ 13 * d → EdgesUnderIn d b es → SmallTimes (withEdges es ws)
 edges-small d b es ws l u = record {
   starts = λ i h. small-under d b (getD (es .starts) i nan) l (u .starts i h);
   ends = λ i h. small-under d b (getD (es .ends) i nan) l (u .ends i h);
@@ -91,16 +91,16 @@ within-hours (fin true m e) h =
     let Y = 225 * 2 ^ 5 * down e in
     hours (m * up e) (down e) (ltb X Y) (eqb Y X) (λ t. let l = ltb-true X Y t in omega arith) (λ t. let l = eqb-true Y X t in omega arith) (h .0)
 
-within-under : (d : ℕ) (t : Float) → Within t → UnderIn d (7200 * d) t
+pub within-under : (d : ℕ) (t : Float) → Within t → UnderIn d (7200 * d) t
 within-under d t h = subst (λ (n : ℕ). UnderIn n (7200 * d) t) (one-mul d) (under-finer 1 d 7200 t (within-hours t h))
 
-words-under : (d : ℕ) (ws : Words) → WordsWithin ws → EdgesUnderIn d (7200 * d) (edges (ws .starts) (ws .ends))
+pub words-under : (d : ℕ) (ws : Words) → WordsWithin ws → EdgesUnderIn d (7200 * d) (edges (ws .starts) (ws .ends))
 words-under d ws w = record {
   starts = λ i h. within-under d (getD (ws .starts) i nan) (w .starts-within i h);
   ends = λ i h. within-under d (getD (ws .ends) i nan) (w .ends-within i h);
 }
 
-words-timed : (ws : Words) → WordsWithin ws → Timed (length (ws .letters)) (7200 * steps) (edges (ws .starts) (ws .ends))
+pub words-timed : (ws : Words) → WordsWithin ws → Timed (length (ws .letters)) (7200 * steps) (edges (ws .starts) (ws .ends))
 words-timed ws w = record {
   starts-long = sym (w .letters-as-long);
   ends-long = w .ends-as-long ∙ sym (w .letters-as-long);
@@ -116,7 +116,7 @@ unfolding ofBits
 zeros-small zero = tt
 zeros-small (suc n) = (lit< tt, zeros-small n)
 
-places-small : (m : ℕ) (ts : List Float) → Each Small nan ts → (i : ℕ) → i < length (inPlaces zeroF m ts) → Small (getD (inPlaces zeroF m ts) i nan)
+pub places-small : (m : ℕ) (ts : List Float) → Each Small nan ts → (i : ℕ) → i < length (inPlaces zeroF m ts) → Small (getD (inPlaces zeroF m ts) i nan)
 places-small m ts h =
     all-at Small nan (inPlaces zeroF m ts)
     (all-append Small ts (replicate (m - length ts) zeroF) (at-all Small nan ts h) (zeros-small (m - length ts)))
@@ -131,7 +131,7 @@ loops-small ws w =
     })
 
 -- ---- an hour has 360,000 frames
-hour-long : (levels : List Float) (floor : Float) (count : ℕ) → (count ≤ 57600000) × (length levels ≡ count / 160) → length (loudRow floor levels) ≤ 360000
+pub hour-long : (levels : List Float) (floor : Float) (count : ℕ) → (count ≤ 57600000) × (length levels ≡ count / 160) → length (loudRow floor levels) ≤ 360000
 hour-long levels floor count h = rw (length-row floor levels) (omega (arith, h .0, h .1))
 
 module _ (ws : Words) (levels : List Float) (floor : Float) (count : ℕ) where
@@ -163,9 +163,11 @@ module _ (ws : Words) (levels : List Float) (floor : Float) (count : ℕ) where
         (within-under 64 duration (w .1)) (w .0 .0 .units-from-1) (w .0 .0 .ends-as-long) (w .0 .0 .units-as-long) (words-under 64 ws (w .0 .0))))
 
     -- ---- the three in a row, with nothing tested between them
-    pub stages-small : SoundWithin ws (length levels) count → Within duration
-        → SmallTimes (withEdges (snapEnds (loudRow floor levels) duration (ws .units) (snapOnsets (loudRow floor levels) (handBackTails (loudRow floor levels) (ws .letters) (edges (ws .starts) (ws .ends))))) ws)
-    stages-small w d =
+    abbrev pub inRow : Edges
+    inRow = snapEnds (loudRow floor levels) duration (ws .units) (snapOnsets (loudRow floor levels) (handBackTails (loudRow floor levels) (ws .letters) (edges (ws .starts) (ws .ends))))
+
+    pub stages-under : SoundWithin ws (length levels) count → Under 460800 duration → EdgesUnder 501761 inRow
+    stages-under w d =
         let row : List Bool = loudRow floor levels in
         let short : length row ≤ 360000 = hour-long levels floor count (w .1) in
         let es : Edges = edges (ws .starts) (ws .ends) in
@@ -176,14 +178,26 @@ module _ (ws : Words) (levels : List Float) (floor : Float) (count : ℕ) where
         let long : length (es₂ .starts) ≡ length (ws .starts) = onsets-long row es₁ .0 ∙ tails-long row (ws .letters) es .0 in
         let long-ends : length (es₂ .ends) ≡ length (ws .starts) = onsets-long row es₁ .1 ∙ tails-long row (ws .letters) es .1 ∙ w .0 .ends-as-long in
         let n : length (es₂ .starts) ≤ 4096 = omega (arith, w .0 .few) in
-        edges-small 64 (460801 + growth * length (es₂ .starts)) (snapEnds row duration (ws .units) es₂) ws (omega arith)
-        (ends-under row 460801 duration (ws .units) es₂ short (omega arith) (omega arith) (under-more 64 460800 460801 duration (omega arith) (within-under 64 duration d)) (w .0 .units-from-1)
+        edges-more 64 (460801 + growth * length (es₂ .starts)) 501761 inRow (omega arith)
+        (ends-under row 460801 duration (ws .units) es₂ short (omega arith) (omega arith) (under-more 64 460800 460801 duration (omega arith) d) (w .0 .units-from-1)
         (long-ends ∙ sym long) (w .0 .units-as-long ∙ sym long) u₂)
+
+    pub stages-long : SoundWithin ws (length levels) count → (length (inRow .starts) ≡ length (ws .starts)) × (length (inRow .ends) ≡ length (ws .starts))
+    stages-long w =
+        let row : List Bool = loudRow floor levels in
+        let es : Edges = edges (ws .starts) (ws .ends) in
+        let es₁ : Edges = handBackTails row (ws .letters) es in
+        let es₂ : Edges = snapOnsets row es₁ in (
+          ends-long row duration (ws .units) es₂ .0 ∙ onsets-long row es₁ .0 ∙ tails-long row (ws .letters) es .0,
+          ends-long row duration (ws .units) es₂ .1 ∙ onsets-long row es₁ .1 ∙ tails-long row (ws .letters) es .1 ∙ w .0 .ends-as-long,
+        )
+
+    pub stages-small : SoundWithin ws (length levels) count → Within duration → SmallTimes (withEdges inRow ws)
+    stages-small w d = edges-small 64 501761 inRow ws (lit< tt) (stages-under w (within-under 64 duration d))
 
 -- ---- loops and the three stages in a row: the stages on the words that loops leave
 pub all-small : (ws : Words) (levels : List Float) (floor : Float) (samples : ℕ) (duration : Float) → WordsWithin ws → (samples ≤ 57600000) × (length levels ≡ samples / 160) → Within duration
-    → let left : Words = collapseLoops ws .words in
-    SmallTimes (withEdges (snapEnds (loudRow floor levels) duration (left .units) (snapOnsets (loudRow floor levels) (handBackTails (loudRow floor levels) (left .letters) (edges (left .starts) (left .ends))))) left)
+    → let left : Words = collapseLoops ws .words in SmallTimes (withEdges (inRow left levels floor samples duration) left)
 all-small ws levels floor samples duration w l d = stages-small (collapseLoops ws .words) levels floor samples duration (left-within ws w, l) d
 
 -- ---- evening: 7,200 s, 120 s for the last word's slow pace, and 4,096 runs
@@ -209,10 +223,13 @@ fit-small ws levels floor count duration h =
     (fit-under (ws .letters) (w .0 .0 .letters-from-1) n (loudRow floor levels) (hour-long levels floor count (w .0 .1)) duration (7200 * steps) (lit≤ tt) (omega arith) (within-under steps duration (w .1))
     (edges (ws .starts) (ws .ends)) (words-timed ws (w .0 .0)) .small))
 
--- ---- the fit by phrase: as fitting to sound, and 0.04 s and one evening more for each of 4,096 words; an hour's samples last an hour
-hour-lasts : (samples : ℕ) → samples ≤ 57600000 → UnderIn steps (7200 * steps) (durationOf samples)
+-- ---- the fit by phrase: as fitting to sound, and 0.04 s more, and one evening more for each of 4,096 words; an hour's samples last an hour
+pub lasts-under : (samples : ℕ) → samples ≤ 57600000 → Under 230400 (durationOf samples)
 unfolding durationOf
-hour-lasts samples h = under-more steps (3600 * steps) (7200 * steps) (durationOf samples) (lit≤ tt) (under-finer 64 (2 ^ 34) 230400 (durationOf samples) (plus-under 230400 samples (lit< tt) (omega arith)))
+lasts-under samples h = plus-under 230400 samples (lit< tt) (omega arith)
+
+pub hour-lasts : (samples : ℕ) → samples ≤ 57600000 → UnderIn steps (7200 * steps) (durationOf samples)
+hour-lasts samples h = under-more steps (3600 * steps) (7200 * steps) (durationOf samples) (lit≤ tt) (under-finer 64 (2 ^ 34) 230400 (durationOf samples) (lasts-under samples h))
 
 pub fit-file-small : (ws : Words) (phrases : List ℕ) (spans : Spans) (levels : List Float) (floor : Float) (samples places : ℕ) → fitFileCall ws phrases spans levels floor samples places .answer ≡ Accepted
     → SmallTimes (fitFileCall ws phrases spans levels floor samples places .words)
@@ -224,7 +241,7 @@ fit-file-small ws phrases spans levels floor samples places h =
     let given : Edges = edges (ws .starts) (ws .ends) in
     let within : Edges = edges (spans .starts) (spans .ends) in
     subst SmallTimes (sym (file.accepted-words ws phrases spans levels floor samples places h))
-    (edges-small steps (7200 * steps + slowest + haul * length (ws .letters)) (fitFile (loudRow floor levels) (durationOf samples) (ws .letters) phrases within given) ws (omega arith)
+    (edges-small steps (7200 * steps + slowest + haul * length (ws .letters) + shortest) (fitFile (loudRow floor levels) (durationOf samples) (ws .letters) phrases within given) ws (omega arith)
     (file-under (ws .letters) (w .letters-from-1) n (loudRow floor levels) (hour-long levels floor samples (a .0 .1)) (durationOf samples) phrases within (7200 * steps) (lit≤ tt) (omega arith) (hour-lasts samples (a .0 .1 .0))
     (λ p l. (within-under steps (getD (spans .starts) p nan) (sp .starts-within p l), within-under steps (getD (spans .ends) p nan) (sp .ends-within p (omega (arith, l, sp .ends-as-long)))))
     given (words-timed ws w) .small))

@@ -1,4 +1,4 @@
--- How large a time can be: what "finite and below 2^13" says. Assumes nothing.
+-- How large a time can be: what it says that a time is finite and below 2^13. Assumes nothing.
 use Prim.Native.Nat.{ℕ, _*_, _≤_, _<_, _^_}
 use lib.ListN.{length, getD}
 use lib.Ieee.{Float, nan, inf, fin, up, down}

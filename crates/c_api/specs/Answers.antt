@@ -3,7 +3,7 @@ use Prim.Native.Nat.{ℕ}
 use mathlib.Core.Path.{_≡_}
 use mathlib.Core.Bool.{cond}
 use mathlib.Core.List.{List}
-use lib.Ieee.{binary64, ofBits}
+use lib.Ieee.{Float, binary64, ofBits}
 use Rattle.base.specs.Refusals.{number}
 use Rattle.base.specs.Words.{Words}
 use Rattle.loops.specs.Calls as loops
@@ -13,18 +13,23 @@ use Rattle.phrase_align.specs.Calls as phrases
 use Rattle.phrase_align.specs.declared.Answer.{Answer as Placed}
 use Rattle.phrase_align.specs.declared.Answer.the-variants as placed
 use Rattle.calls.specs.Calls as calls
+use Rattle.tally.specs.Tally as tally
 use Rattle.checks.specs.declared.Answer.{Answer as Moved}
 use Rattle.checks.specs.declared.Answer.the-variants as moved
 use Rattle.envelope.specs.declared.Answer.{Answer}
 use Rattle.envelope.specs.declared.Answer.the-variants as heard
 use Rattle.pieces.specs.declared.Answer.{Answer as Cut}
 use Rattle.pieces.specs.declared.Answer.the-variants as cut
-use Rattle.tally.specs.declared.Level.{Level}
-use Rattle.tally.specs.declared.Level.the-variants as level
+use Rattle.peak.specs.declared.Level.{Level}
+use Rattle.peak.specs.declared.Level.the-variants as level
 use Rattle.last_run.specs.declared.Run.{Run}
 use Rattle.last_run.specs.declared.Run.the-variants.{Sound, Nothing}
 use Rattle.last_run.specs.declared.Answer.{Answer as Searched}
 use Rattle.last_run.specs.declared.Answer.the-variants as searched
+use Rattle.full_run.specs.FullRun as full
+use Rattle.full_run.specs.declared.Answer.{Answer as Ran}
+use Rattle.full_run.specs.declared.Answer.the-variants as ran
+use Rattle.c_api.specs.declared.QiluvraitReport.{QiluvraitReport}
 use Rattle.c_api.specs.declared.QiluvraitLevel.{QiluvraitLevel}
 use Rattle.c_api.specs.declared.QiluvraitRun.{QiluvraitRun}
 use Rattle.c_api.specs.declared.QiluvraitHeard.{QiluvraitHeard}
@@ -71,6 +76,17 @@ reply n ws = record { refusal = n; words = ws }
 unfoldable pub replyOf : calls.Output → Reply
 replyOf o = reply (movedOf (o .answer)) (o .words)
 
+-- ---- 0 where the tallies were written, or why they were not; and the places afterwards.
+pub record Tallied : Type 0 where
+  pub refusal : ℕ
+  pub places : List ℕ
+
+abbrev pub tallied : ℕ → List ℕ → Tallied
+tallied n p = record { refusal = n; places = p }
+
+unfoldable pub talliedOf : tally.Output → Tallied
+talliedOf o = tallied (movedOf (o .answer)) (o .places)
+
 -- ---- The words left and 1 where a loop was found, or why there is no answer; and the words afterwards.
 abbrev pub leftOf : Collapsed → QiluvraitLeft
 leftOf (collapsed.Accepted n found) = record { refusal = 0; found = cond found 1 0; count = n }
@@ -101,6 +117,25 @@ placement p ws f = record { placed = p; words = ws; phrases = f }
 
 unfoldable pub placementOf : phrases.Output → Placement
 placementOf o = placement (placedOf (o .answer)) (o .words) (o .phrases)
+
+-- ---- The report of a full run, or why there is none; and what the lent places hold.
+abbrev pub reportOf : Ran → QiluvraitReport
+reportOf (ran.Accepted r) = record { refusal = 0; found = cond (r .found) 1 0; pieces = r .pieces; words = r .words; floor = r .floor }
+reportOf (ran.Refused r) = record { refusal = number r; found = 0; pieces = 0; words = 0; floor = ofBits binary64 0 }
+
+pub record FullRun : Type 0 where
+  pub report : QiluvraitReport
+  pub words : Words
+  pub phrases : List ℕ
+  pub levels : List Float
+  pub pieceStarts : List ℕ
+  pub pieceEnds : List ℕ
+
+abbrev pub fullRunWith : QiluvraitReport → Words → List ℕ → List Float → List ℕ → List ℕ → FullRun
+fullRunWith r ws phrases ls s e = record { report = r; words = ws; phrases = phrases; levels = ls; pieceStarts = s; pieceEnds = e }
+
+unfoldable pub fullRunOf : full.Output → FullRun
+fullRunOf o = fullRunWith (reportOf (o .answer)) (o .words) (o .phrases) (o .levels) (o .pieceStarts) (o .pieceEnds)
 
 -- ---- What a refusal leaves of work space: all of it.
 abbrev pub Unchanged : {A : Type 0} → ℕ → List A → List A → Type 0

@@ -15,12 +15,14 @@ ghost use Rattle.onsets.specs.Onsets.{onsetsCall};
 ghost use Rattle.ends.specs.Ends.{endsCall};
 ghost use Rattle.phrase_align.specs.Calls.{alignCall};
 ghost use Rattle.even.specs.Calls.{evenCall};
-ghost use Rattle.tally.specs.Peak.{peakCall};
+ghost use Rattle.peak.specs.Peak.{peakCall};
 ghost use Rattle.last_run.specs.Calls.{lastRunCall};
 ghost use Rattle.fit_to_sound.specs.Calls.{fitCall};
 ghost use Rattle.fit_file.specs.Calls.{workPlaces, fitFileCall};
+ghost use Rattle.tally.specs.Tally.{tallyCall};
+ghost use Rattle.full_run.specs.FullRun.{input, fullRun};
 ghost use lib.ListN.{length};
-ghost use Rattle.c_api.specs.Answers.{heardOf, cutOf, levelOf, leftOf, leaves, leavesOf, movedOf, reply, replyOf, placedOf, placement, placementOf, runOf, searchedOf, Unchanged};
+ghost use Rattle.c_api.specs.Answers.{heardOf, cutOf, levelOf, leftOf, leaves, leavesOf, movedOf, reply, replyOf, placedOf, placement, placementOf, reportOf, fullRunWith, fullRunOf, runOf, searchedOf, tallied, talliedOf, Unchanged};
 ghost use Rattle.frames.specs.Frames.{frameAt, frameCeil, frameFromZero, frameSeconds};
 
 #[no_mangle]
@@ -156,13 +158,13 @@ pub struct QiluvraitLevel {
     pub level: f64,
 }
 
-// An answer of tally::peak, as numbers.
-fn level(answer: tally::Level) -> QiluvraitLevel
+// An answer of peak::peak, as numbers.
+fn level(answer: peak::Level) -> QiluvraitLevel
     ensures { λ r. ⌜ r ≡ levelOf answer ⌝ }
 {
     match answer {
-        tally::Level::Accepted(level) => QiluvraitLevel { refusal: 0, level },
-        tally::Level::Refused(why) => QiluvraitLevel {
+        peak::Level::Accepted(level) => QiluvraitLevel { refusal: 0, level },
+        peak::Level::Refused(why) => QiluvraitLevel {
             refusal: base::number(why),
             level: 0.0,
         },
@@ -173,7 +175,7 @@ fn level(answer: tally::Level) -> QiluvraitLevel
 pub extern "C" fn qiluvrait_peak(samples: &[f32], start: f64, end: f64) -> QiluvraitLevel
     ensures { λ r. ⌜ r ≡ levelOf (peakCall (now (samples .entry)) start end) ⌝ }
 {
-    level(tally::peak(samples, start, end))
+    level(peak::peak(samples, start, end))
 }
 
 // What qiluvrait_collapse_loops answers: refusal 0, the words left and 1 where a loop was found, or the number of the refusal.
@@ -482,6 +484,116 @@ pub extern "C" fn qiluvrait_fit_file(
         work_starts,
         work_ends,
         work_letters,
+    );
+    moved(answer)
+}
+
+// What qiluvrait_full_run answers: refusal 0, the counts of pieces and words, the floor and 1 where a loop was found, or the number of the refusal.
+#[repr(C)]
+pub struct QiluvraitReport {
+    pub refusal: u32,
+    pub found: u32,
+    pub pieces: usize,
+    pub words: usize,
+    pub floor: f64,
+}
+
+// An answer of full_run::full_run, as numbers.
+fn reported(answer: full_run::Answer) -> QiluvraitReport
+    ensures { λ r. ⌜ r ≡ reportOf answer ⌝ }
+{
+    match answer {
+        full_run::Answer::Accepted(report) => QiluvraitReport {
+            refusal: 0,
+            found: one_if(report.found),
+            pieces: report.pieces,
+            words: report.words,
+            floor: report.floor,
+        },
+        full_run::Answer::Refused(why) => QiluvraitReport {
+            refusal: base::number(why),
+            found: 0,
+            pieces: 0,
+            words: 0,
+            floor: 0.0,
+        },
+    }
+}
+
+#[no_mangle]
+pub extern "C" fn qiluvrait_full_run(
+    samples: &[f32],
+    starts: &mut [f64],
+    ends: &mut [f64],
+    letters: &mut [u32],
+    units: &mut [u32],
+    keys: &mut [u32],
+    span_starts: &[f64],
+    span_ends: &[f64],
+    counts: &[u32],
+    phrases: &mut [u32],
+    levels: &mut [f64],
+    piece_starts: &mut [usize],
+    piece_ends: &mut [usize],
+    work_starts: &mut [f64],
+    work_ends: &mut [f64],
+    work_letters: &mut [u32],
+) -> QiluvraitReport
+    ensures { λ r. ⌜ (fullRunWith r (words (now (starts .exit)) (now (ends .exit)) (now (letters .exit)) (now (units .exit)) (now (keys .exit))) (now (phrases .exit)) (now (levels .exit)) (now («piece_starts» .exit)) (now («piece_ends» .exit)) ≡ fullRunOf (fullRun (input (now (samples .entry)) (words (now (starts .entry)) (now (ends .entry)) (now (letters .entry)) (now (units .entry)) (now (keys .entry))) (spans (now («span_starts» .entry)) (now («span_ends» .entry)) (now (counts .entry))) (now (phrases .entry)) (now (levels .entry)) (now («piece_starts» .entry)) (now («piece_ends» .entry)) (workPlaces (length (now («work_starts» .entry))) (length (now («work_ends» .entry))) (length (now («work_letters» .entry))))))) × (Unchanged (r .refusal) (now («work_starts» .entry)) (now («work_starts» .exit)) × (Unchanged (r .refusal) (now («work_ends» .entry)) (now («work_ends» .exit)) × Unchanged (r .refusal) (now («work_letters» .entry)) (now («work_letters» .exit)))) ⌝ }
+{
+    let answer = full_run::full_run(
+        samples,
+        starts,
+        ends,
+        letters,
+        units,
+        keys,
+        span_starts,
+        span_ends,
+        counts,
+        phrases,
+        levels,
+        piece_starts,
+        piece_ends,
+        work_starts,
+        work_ends,
+        work_letters,
+    );
+    reported(answer)
+}
+
+#[no_mangle]
+pub extern "C" fn qiluvrait_tally(
+    starts: &[f64],
+    ends: &[f64],
+    letters: &[u32],
+    units: &[u32],
+    keys: &[u32],
+    phrases: &[u32],
+    span_starts: &[f64],
+    span_ends: &[f64],
+    counts: &[u32],
+    levels: &[f64],
+    floor: f64,
+    count: usize,
+    places: &mut [usize],
+) -> u32
+    ensures { λ r. ⌜ tallied r (now (places .exit)) ≡ talliedOf (tallyCall (words (now (starts .entry)) (now (ends .entry)) (now (letters .entry)) (now (units .entry)) (now (keys .entry))) (now (phrases .entry)) (spans (now («span_starts» .entry)) (now («span_ends» .entry)) (now (counts .entry))) (now (levels .entry)) floor count (now (places .entry))) ⌝ }
+{
+    let answer = tally::tally_at(
+        levels,
+        floor,
+        count,
+        starts,
+        ends,
+        letters,
+        units,
+        keys,
+        phrases,
+        span_starts,
+        span_ends,
+        counts,
+        places,
     );
     moved(answer)
 }

@@ -1,5 +1,5 @@
 -- Two recordings that meet the theorems' conditions, computed: 160 samples of 0.5 and then 160 of 0, and the same times 4, reversed: 160 of -2 and
--- 160 of -0. Both reach 1e-9, and of both the first frame is loud and the second quiet. Assumes nothing.
+-- 160 of -0. Both reach 1e-9, and of both the first frame is loud and the second quiet. And two with infinite samples: of both no frame is loud. Assumes nothing.
 use mathlib.Core.Path.{_≡_, refl, sym, _∙_}
 use mathlib.Core.Logic.{inl, inr}
 use mathlib.Core.Bool.{Bool, true, false}
@@ -8,14 +8,14 @@ use Prim.Native.Nat.{ℕ, zero, suc}
 use lib.IntN.{ℤ, pos, negsuc}
 use lib.Dec.{lit<}
 use lib.ListN.{length, replicate}
-use lib.Ieee.{Float, fin, ofBits, add, mul, div, lt, eq, le, fits, isNan}
+use lib.Ieee.{Float, inf, fin, ofBits, add, mul, div, lt, eq, le, fits, isNan}
 use Rattle.base.specs.Loop.{fold, table}
 use Rattle.js.specs.Js.{under, jsMax}
 use Rattle.roots.specs.Sqrt.{sqrt}
 use Rattle.levels.specs.Levels.{squares, level, frame, levels}
 use Rattle.floors.specs.Floors.{peak, floor}
 use Rattle.envelope.specs.Levels.{loudRow, quietRow}
-use Rattle.invariance.specs.Scaled.{Sampled, none, next, Recorded, Loudest}
+use Rattle.invariance.specs.Scaled.{Scaled, Sampled, none, next, Recorded, Loudest}
 use Rattle.invariance.proofs.Rows.{rows-alike}
 
 abbrev pub half : Float
@@ -30,10 +30,10 @@ plusZero = fin false 0 (pos 0)
 abbrev minusZero : Float
 minusZero = fin true 0 (pos 0)
 
-pub recording : List Float
+unfoldable pub recording : List Float
 recording = replicate 160 half ++ replicate 160 plusZero
 
-pub multiplied : List Float
+unfoldable pub multiplied : List Float
 multiplied = replicate 160 minusTwo ++ replicate 160 minusZero
 
 -- n samples of x and of y, before others
@@ -82,3 +82,42 @@ multiplied-loud = sym (rows-alike (pos 2) true recording multiplied recorded rea
 
 multiplied-quiet : quietRow (floor (levels multiplied)) (levels multiplied) ≡ false ∷ (true ∷ [])
 multiplied-quiet = sym (rows-alike (pos 2) true recording multiplied recorded reached .1) ∙ recording-quiet
+
+-- ---- infinite samples: 160 of +infinity and then 160 of 0.5, and the same times 4, reversed
+infinity-scaled : Scaled (pos 1) true (inf false) (inf true)
+infinity-scaled = refl
+
+unfoldable overloaded : List Float
+overloaded = replicate 160 (inf false) ++ replicate 160 half
+
+unfoldable turned : List Float
+turned = replicate 160 (inf true) ++ replicate 160 minusTwo
+
+overloaded-recorded : Recorded (pos 2) true overloaded turned
+unfolding overloaded turned fits
+overloaded-recorded =
+    repeated 160 (record { first = tt; second = tt; scaled = refl })
+    (repeated 160 (record { first = tt; second = tt; scaled = (refl, inr refl) }) none)
+
+overloaded-reached : Loudest overloaded turned
+unfolding overloaded turned levels level squares frame fold table sqrt ofBits add mul div le lt eq
+overloaded-reached = inr ((0, lit< tt, tt), (0, lit< tt, tt))
+
+-- the levels are +infinity and 0.5; no frame is loud, and both are quiet
+overloaded-levels : levels overloaded ≡ inf false ∷ (half ∷ [])
+unfolding overloaded levels level squares frame fold table sqrt ofBits add mul div
+overloaded-levels = refl
+
+overloaded-loud : loudRow (floor (levels overloaded)) (levels overloaded) ≡ false ∷ (false ∷ [])
+unfolding loudRow floor peak fold jsMax under ofBits mul isNan lt eq
+overloaded-loud = rw overloaded-levels
+
+overloaded-quiet : quietRow (floor (levels overloaded)) (levels overloaded) ≡ true ∷ (true ∷ [])
+unfolding quietRow floor peak fold jsMax under ofBits mul isNan lt eq le
+overloaded-quiet = rw overloaded-levels
+
+turned-loud : loudRow (floor (levels turned)) (levels turned) ≡ false ∷ (false ∷ [])
+turned-loud = sym (rows-alike (pos 2) true overloaded turned overloaded-recorded overloaded-reached .0) ∙ overloaded-loud
+
+turned-quiet : quietRow (floor (levels turned)) (levels turned) ≡ true ∷ (true ∷ [])
+turned-quiet = sym (rows-alike (pos 2) true overloaded turned overloaded-recorded overloaded-reached .1) ∙ overloaded-quiet

@@ -3,6 +3,7 @@ mod Lists
 mod Rounding
 mod Twin
 mod Compare
+mod Infinite
 mod Floor
 mod Sizes
 mod Samples
@@ -12,3 +13,6 @@ mod Example
 pub mod Alone
 pub mod Phrases
 mod Fitted
+pub mod FullRun
+pub mod Demand3
+mod FullExample

@@ -1,5 +1,5 @@
 -- The squares of two samples of which the second is 2 ^ t times the first in size: each is one rounding, and they are a pair (`Twin`), 4 ^ t apart,
--- far above the smallest values of the double and far below its largest. Assumes nothing.
+-- far above the smallest values of the double and far below its largest. Where the samples are infinite, both squares are +infinity. Assumes nothing.
 use mathlib.Core.Path.{_≡_, refl, sym, ap, _∙_, subst₂}
 use mathlib.Core.Logic.{_⊎_, inl, inr}
 use mathlib.Core.Bool.{Bool, true, false}
@@ -15,6 +15,7 @@ use lib.Ieee.Scale.{overflow, round-same}
 use Rattle.invariance.specs.Scaled.{Sampled}
 use Rattle.invariance.proofs.Twin.{Between, Range, round-twin}
 use Rattle.invariance.proofs.Sizes.{sizes}
+use Rattle.invariance.proofs.Infinite.{Infinite}
 
 -- ---- the square of p units of the format f
 square-is : (f g : Format) (x : Float) (p : ℕ) → Equals x p (2 ^ low f) → mul g x x ≡ round g false (p * p) (2 ^ low f * 2 ^ low f)
@@ -68,19 +69,36 @@ module _ (f g : Format) (lo hi t : ℕ) (r : Squares f g lo hi) (x y : Float) (p
           (le-trans (mul-le-mul-right (2 ^ low g) (mul-le-mul (le-of-lt u) (le-of-lt u)))
           (le-of-eq (ap (λ (n : ℕ). n * 2 ^ low g) (sym (pow-add 2 o o)) ∙ sym (pow-add 2 (o + o) (low g)) ∙ ap (λ (n : ℕ). 2 ^ n) (r .most) ∙ sym (times hi))))
 
--- ---- of an f32, in a double: 0, or from 2 ^ 776 units, which are 2 ^ -298, to 2 ^ 1330
+-- ---- of an f32, in a double: 0, or from 2 ^ 776 units, which are 2 ^ -298, to 2 ^ 1330; or both are +infinity
 abbrev pub Squared : ℕ → Float → Float → Type 0
-Squared t x y = Between binary64 (t + t) 776 1330 (mul binary64 x x) (mul binary64 y y)
+Squared t x y = Between binary64 (t + t) 776 1330 (mul binary64 x x) (mul binary64 y y) ⊎ Infinite (mul binary64 x x) (mul binary64 y y)
 
 double : Squares binary32 binary64 776 1330
 double = record { least = refl; most = refl; range = record { normal = lit≤ tt; under = lit< tt } }
 
+square-infinite : (s : Bool) → mul binary64 (inf s) (inf s) ≡ inf false
+unfolding mul
+square-infinite true = refl
+square-infinite false = refl
+
 pub louder : (t : ℕ) (reversed : Bool) (x y : Float) → Sampled (pos t) reversed x y → Squared t x y
-louder t reversed x y h =
-    let z = sizes binary32 (pos t) reversed x y (h .first) (h .second) (h .scaled) in
-    square-twin binary32 binary64 776 1330 t double x y (z .p) (z .q) (sym (mul-one (z .q)) ∙ z .factor) (z .first) (z .second) (z .second-under)
+louder t reversed nan y h = absurd (h .scaled)
+louder t reversed (inf s) nan h = absurd (h .scaled)
+louder t reversed (inf s) (inf r) h = inr (square-infinite s, square-infinite r)
+louder t reversed (inf s) (fin r n d) h = absurd (h .scaled)
+louder t reversed (fin s m e) nan h = absurd (h .scaled)
+louder t reversed (fin s m e) (inf r) h = absurd (h .scaled)
+louder t reversed (fin s m e) (fin r n d) h =
+    let z = sizes binary32 (pos t) reversed s r m n e d (h .first) (h .second) (h .scaled) in
+    inl (square-twin binary32 binary64 776 1330 t double (fin s m e) (fin r n d) (z .p) (z .q) (sym (mul-one (z .q)) ∙ z .factor) (z .first) (z .second) (z .second-under))
 
 pub softer : (j : ℕ) (reversed : Bool) (x y : Float) → Sampled (negsuc j) reversed x y → Squared (suc j) y x
-softer j reversed x y h =
-    let z = sizes binary32 (negsuc j) reversed x y (h .first) (h .second) (h .scaled) in
-    square-twin binary32 binary64 776 1330 (suc j) double y x (z .q) (z .p) (sym (mul-one (z .p)) ∙ sym (z .factor)) (z .second) (z .first) (z .first-under)
+softer j reversed nan y h = absurd (h .scaled)
+softer j reversed (inf s) nan h = absurd (h .scaled)
+softer j reversed (inf s) (inf r) h = inr (square-infinite r, square-infinite s)
+softer j reversed (inf s) (fin r n d) h = absurd (h .scaled)
+softer j reversed (fin s m e) nan h = absurd (h .scaled)
+softer j reversed (fin s m e) (inf r) h = absurd (h .scaled)
+softer j reversed (fin s m e) (fin r n d) h =
+    let z = sizes binary32 (negsuc j) reversed s r m n e d (h .first) (h .second) (h .scaled) in
+    inl (square-twin binary32 binary64 776 1330 (suc j) double (fin r n d) (fin s m e) (z .q) (z .p) (sym (mul-one (z .p)) ∙ sym (z .factor)) (z .second) (z .first) (z .first-under))

@@ -30,7 +30,7 @@ module _ (X D Y E L p q K U : ℕ) (x : X * L ≡ p * D) (y : Y * L ≡ q * E) w
   from-units : 0 < L → q * K ≡ p * U → Y * (D * K) ≡ X * U * E
   from-units P h = eq-of-mul-eq-mul-right L P (Y * (D * K)) (X * U * E) (second ∙ ap (λ (n : ℕ). n * (D * E)) h ∙ sym first)
 
--- ---- the sizes of two values of the format, whatever their signs
+-- ---- the sizes of two finite values of the format, whatever their signs
 pub record Sizes (f : Format) (k : ℤ) (x y : Float) : Type 0 where
   pub p : ℕ
   pub q : ℕ
@@ -40,13 +40,9 @@ pub record Sizes (f : Format) (k : ℤ) (x y : Float) : Type 0 where
   pub second-under : q < overflow f
   pub factor : q * down k ≡ p * up k
 
-pub sizes : (f : Format) (k : ℤ) (reversed : Bool) (x y : Float) → T (fits f x) → T (fits f y) → Scaled k reversed x y → Sizes f k x y
+pub sizes : (f : Format) (k : ℤ) (reversed s r : Bool) (m n : ℕ) (e d : ℤ) → T (fits f (fin s m e)) → T (fits f (fin r n d)) → Scaled k reversed (fin s m e) (fin r n d) → Sizes f k (fin s m e) (fin r n d)
 unfolding isNan
-sizes f k reversed nan y t w h = absurd h
-sizes f k reversed (inf s) y t w h = absurd h
-sizes f k reversed (fin s m e) nan t w h = absurd h
-sizes f k reversed (fin s m e) (inf r) t w h = absurd h
-sizes f k reversed (fin s m e) (fin r n d) t w h =
+sizes f k reversed s r m n e d t w h =
     let a = has-rank f (fin s m e) t tt .1 in
     let b = has-rank f (fin r n d) w tt .1 in
     record {

@@ -14,10 +14,12 @@ use Rattle.floors.specs.Floors.{minPeak}
 
 -- ---- "each sample of the second is, as a number, exactly the first's times 2^k with that sign; either zero may stand for 0"
 -- `fin s m e` is the number m * 2 ^ e, negative where s is true, and 2 ^ k is up k / down k: the equation is n * 2 ^ d = m * 2 ^ e * 2 ^ k.
--- `reversed` says that the sign is a minus. A NaN or an infinity is no number.
+-- `reversed` says that the sign is a minus. A NaN is no number; an infinity times 2 ^ k is that infinity, with its sign.
 abbrev pub Scaled : ℤ → Bool → Float → Float → Type 0
 Scaled k reversed nan y = ⊥
-Scaled k reversed (inf s) y = ⊥
+Scaled k reversed (inf s) nan = ⊥
+Scaled k reversed (inf s) (inf r) = r ≡ unlike reversed s
+Scaled k reversed (inf s) (fin r n d) = ⊥
 Scaled k reversed (fin s m e) nan = ⊥
 Scaled k reversed (fin s m e) (inf r) = ⊥
 Scaled k reversed (fin s m e) (fin r n d) = (n * up d * (down e * down k) ≡ m * up e * up k * down d) × ((m ≡ 0) ⊎ (r ≡ unlike reversed s))

@@ -5,7 +5,7 @@ use mathlib.Core.Path.{refl, sym, _∙_, subst}
 use mathlib.Core.List.{List, [], _∷_, _++_}
 use native.Mathlib.Omega.{arith}
 use lib.ListN.{length, take, drop, getD}
-use lib.Ieee.{nan}
+use lib.Ieee.{Float, nan}
 use Rattle.base.specs.Words.{Words, count}
 use Rattle.base.proofs.Loops.{each-holds}
 use Rattle.calls.proofs.Within.{Within, WordsWithin}
@@ -51,37 +51,38 @@ module _ {A : Type 0} (P : A → Type 0) where
   at-all d [] h = tt
   at-all d (x ∷ xs) h = (h 0 (omega arith), at-all d xs (λ (i : ℕ) (l : i < length xs). h (suc i) (omega arith)))
 
--- ---- times, letters and units within the limits
+-- ---- of every time, of every number of letters and of every number of units
+module _ (P : Float → Type 0) (L U : ℕ → Type 0) where
+  abbrev Numbers : Words → Type 0
+  Numbers ws = All P (ws .starts) × (All P (ws .ends) × (All L (ws .letters) × All U (ws .units)))
+
+  drain-numbers : (a e : ℕ) (ws : Words) → Numbers ws → Numbers (drain a e ws)
+  drain-numbers a e ws h = (
+    all-drained P a e (ws .starts) (h .0),
+    (all-drained P a e (ws .ends) (h .1 .0), (all-drained L a e (ws .letters) (h .1 .1 .0), all-drained U a e (ws .units) (h .1 .1 .1))),
+  )
+
+  pass-numbers : (n : ℕ) (ws : Words) → Numbers ws → Numbers (passWords n ws)
+  unfolding passWords turnWords
+  pass-numbers n ws h =
+      each-holds (λ (i : ℕ) (ws : Words). Numbers ws) (turnWords n) (count ws) (λ (i : ℕ) (ws : Words) (l : i < _) (h : Numbers ws). drain-numbers (i + n) (goesOn n i ws) ws h)
+      (count ws) 0 ws (omega arith) h
+
+  left-numbers : (ws : Words) → Numbers ws → Numbers (collapseLoops ws .words)
+  unfolding loopWords
+  left-numbers ws h =
+      subst Numbers (sym (loops-words ws))
+      (each-holds (λ (n : ℕ) (ws : Words). Numbers ws) passWords 5 (λ (n : ℕ) (ws : Words) (l : n < 5) (h : Numbers ws). pass-numbers n ws h) maxRun 1 ws (omega arith) h)
+
 abbrev From : ℕ → ℕ → ℕ → Type 0
 From a b n = (a ≤ n) × (n ≤ b)
-
-abbrev Numbers : Words → Type 0
-Numbers ws = All Within (ws .starts) × (All Within (ws .ends) × (All (From 1 1000) (ws .letters) × All (From 1 10000) (ws .units)))
-
-drain-numbers : (a e : ℕ) (ws : Words) → Numbers ws → Numbers (drain a e ws)
-drain-numbers a e ws h = (
-  all-drained Within a e (ws .starts) (h .0),
-  (all-drained Within a e (ws .ends) (h .1 .0), (all-drained (From 1 1000) a e (ws .letters) (h .1 .1 .0), all-drained (From 1 10000) a e (ws .units) (h .1 .1 .1))),
-)
-
-pass-numbers : (n : ℕ) (ws : Words) → Numbers ws → Numbers (passWords n ws)
-unfolding passWords turnWords
-pass-numbers n ws h =
-    each-holds (λ (i : ℕ) (ws : Words). Numbers ws) (turnWords n) (count ws) (λ (i : ℕ) (ws : Words) (l : i < _) (h : Numbers ws). drain-numbers (i + n) (goesOn n i ws) ws h)
-    (count ws) 0 ws (omega arith) h
-
-left-numbers : (ws : Words) → Numbers ws → Numbers (collapseLoops ws .words)
-unfolding loopWords
-left-numbers ws h =
-    subst Numbers (sym (loops-words ws))
-    (each-holds (λ (n : ℕ) (ws : Words). Numbers ws) passWords 5 (λ (n : ℕ) (ws : Words) (l : n < 5) (h : Numbers ws). pass-numbers n ws h) maxRun 1 ws (omega arith) h)
 
 -- ---- Words within the limits leave words within the limits.
 pub left-within : (ws : Words) → WordsWithin ws → WordsWithin (collapseLoops ws .words)
 left-within ws w =
     let k = w .keys-as-long in
     let even = left-even ws (sym k, (w .ends-as-long ∙ sym k, (w .letters-as-long ∙ sym k, (w .units-as-long ∙ sym k, refl)))) in
-    let numbers = left-numbers ws (at-all Within nan (ws .starts) (w .starts-within), (at-all Within nan (ws .ends) (w .ends-within), (at-all (From 1 1000) 0 (ws .letters) (w .letters-from-1), at-all (From 1 10000) 0 (ws .units) (w .units-from-1)))) in
+    let numbers = left-numbers Within (From 1 1000) (From 1 10000) ws (at-all Within nan (ws .starts) (w .starts-within), (at-all Within nan (ws .ends) (w .ends-within), (at-all (From 1 1000) 0 (ws .letters) (w .letters-from-1), at-all (From 1 10000) 0 (ws .units) (w .units-from-1)))) in
     let left = collapseLoops ws .words in
     record {
       ends-as-long = even .1 .0 ∙ sym (even .0);
@@ -94,3 +95,25 @@ left-within ws w =
       letters-from-1 = all-at (From 1 1000) 0 (left .letters) (numbers .1 .1 .0);
       units-from-1 = all-at (From 1 10000) 0 (left .units) (numbers .1 .1 .1);
     }
+
+-- ---- A limit on every number of letters holds of those that are left.
+module _ (b : ℕ) where
+  abbrev Most : ℕ → Type 0
+  Most n = n ≤ b
+
+  below : (xs : List ℕ) → All Most xs → (i : ℕ) → getD xs i 0 ≤ b
+  below [] h i = omega arith
+  below (x ∷ xs) h zero = h .0
+  below (x ∷ xs) h (suc i) = below xs (h .1) i
+
+  abbrev Any : {A : Type 0} → A → Type 0
+  Any a = Unit {0}
+
+  every : {A : Type 0} (xs : List A) → All Any xs
+  every [] = tt
+  every (x ∷ xs) = (tt, every xs)
+
+  pub left-letters : (ws : Words) → ((i : ℕ) → getD (ws .letters) i 0 ≤ b) → (i : ℕ) → getD (collapseLoops ws .words .letters) i 0 ≤ b
+  left-letters ws h =
+      below (collapseLoops ws .words .letters)
+      (left-numbers Any Most Any ws (every (ws .starts), (every (ws .ends), (at-all Most 0 (ws .letters) (λ i l. h i), every (ws .units)))) .1 .1 .0)

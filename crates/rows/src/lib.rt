@@ -1,10 +1,15 @@
-// Rows of stored answers: their numbers, doubles and recordings. A row has 53 bytes, a letter and
-// three numbers of 16 hexadecimal digits:
+// Rows of stored answers: their numbers, doubles and recordings, and a tally of them. A row has 53
+// bytes, a letter and three numbers of 16 hexadecimal digits:
 //
 //     K AAAAAAAAAAAAAAAA BBBBBBBBBBBBBBBB RRRRRRRRRRRRRRRR
 ghost use mathlib.Core.Path.{_≡_};
 ghost use Prim.Native.Nat.{_+_, _≤_};
 ghost use lib.Ieee.{binary64, nanBits};
+
+// The places of a tally: one for each kind of row, at most 11, and the last for what is no row.
+pub const PLACES: usize = 12;
+
+pub const UNREADABLE: usize = 11;
 
 // A number read from its digits. Where a byte is none, `seen` is above 15.
 pub struct Digits {
@@ -102,4 +107,13 @@ pub fn set_levels(levels: &mut [f64; 64], loud: u64) {
 // Whether the row has spaces before its numbers and a line end after them.
 pub fn is_spaced(row: &[u8; 53]) -> bool {
     row[1] == b' ' && row[18] == b' ' && row[35] == b' ' && row[52] == b'\n'
+}
+
+// Adds one at a place of a tally.
+pub fn add(tally: &mut [u64; 12], at: usize) {
+    if at < PLACES {
+        if tally[at] < u64::MAX {
+            tally[at] += 1;
+        }
+    }
 }

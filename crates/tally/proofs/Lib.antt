@@ -1,8 +1,5 @@
--- Laws of a number without its sign, of the largest one in a range of samples, and the call in plain words.
-mod Unsigned
-mod Ranges
-mod Ends
-mod Extremes
-mod Limits
-pub mod Promises
+-- Laws of the tally, and the call in plain words.
+pub mod Frames
+pub mod Sums
+pub mod Calls
 mod Witnesses

@@ -1,56 +1,81 @@
--- Inputs for each answer of `peak`: one that is accepted, one that is accepted with NaN, one refused with 4, one refused with 1. Assumes nothing.
-use mathlib.Core.Path.{_≡_, refl, sym, ap, _∙_, subst}
-use mathlib.Core.Bool.{false, true, true≢false}
-use mathlib.Core.Logic.{inl, inr}
-use mathlib.Core.List.{List, [], _∷_}
-use Prim.Native.Nat.{ℕ, _<_}
-use lib.IntN.{pos, negsuc}
-use lib.Dec.{lit<, lit≤}
-use lib.Signed.{ltZ-yes}
-use lib.ListN.{replicate, length-replicate}
-use lib.Ieee.{Float, nan, fin, isNan, le, lt, eq, mul, ofBits}
-use Rattle.base.specs.Loop.{run}
-use Rattle.base.specs.declared.Refusal.the-variants.{Counts, Time}
-use Rattle.js.specs.Js.{jsMax, under}
-use Rattle.frames.specs.Frames.{floorI64, ceilI64}
-use Rattle.tally.specs.Peak.{wordPeak, peakCall}
-use Rattle.tally.specs.declared.Level.the-variants.{Accepted, Refused}
-use Rattle.tally.proofs.Promises.{accepted-exactly, refused-4-exactly, refused-1-exactly, nan-exactly}
+-- Inputs for each answer of `tally`, by computing it: two spans, of which one has a word over loud frames and one a reversed word, beside a word
+-- whose number has no span; and one input for each refusal. Assumes nothing.
+use Prim.Native.Nat.{ℕ}
+use mathlib.Core.Bool.{false}
+use mathlib.Core.List.{List, [], _∷_, _++_}
+use mathlib.Core.Path.{_≡_, refl}
+use lib.IntN.{pos}
+use lib.ListN.{replicate}
+use lib.Count.{trailingZeros}
+use lib.Ieee.{Float, nan, fin, binary64, round, size, span, climb, units, odd, ofBits, ofFields, mul, div, lt, le, eq}
+use Rattle.base.specs.Refusals.{first}
+use Rattle.base.specs.Words.{Words, words, Spans, spans}
+use Rattle.base.specs.Loop.{each, table}
+use Rattle.base.specs.declared.Refusal.the-variants.{Time, Letters, Lengths, Counts, Levels, Places}
+use Rattle.frames.specs.Frames.{floorI64, frameAt, frameFromZero}
+use Rattle.envelope.specs.Levels.{loudRow}
+use Rattle.checks.specs.Limits.{any}
+use Rattle.time_tests.specs.Limits.{timeOf}
+use Rattle.checks.specs.Order.{inOrder, chain}
+use Rattle.checks.specs.declared.Answer.the-variants.{Accepted, Refused}
+use Rattle.calls.specs.Calls.{uneven, ofWords, withLevels, withList, unevenSpans, manySpans, withSpans, withPlaces, phrasesRule}
+use Rattle.tally.specs.Tally.{covers, coverTurn, loudUnder, spanTurn, spanTally, tallies, Output, output, tallyCall}
 
--- 0.5, -0.75
-two-samples : List Float
-two-samples = fin false 1 (negsuc 0) ∷ fin true 3 (negsuc 1) ∷ []
+-- so many hundredths of a second
+abbrev time : ℕ → Float
+time n = round binary64 false n 100
 
--- from 0 s to 1 s
-abbrev zeroF : Float
-zeroF = fin false 0 (pos 0)
+abbrev one : Float
+one = fin false 1 (pos 0)
 
-abbrev oneF : Float
-oneF = fin false 1 (pos 0)
+-- 2 quiet frames and 28 loud ones, over a floor of 1
+abbrev heard : List Float
+heard = replicate 2 one ++ replicate 28 (fin false 1 (pos 1))
 
-largest : wordPeak two-samples zeroF oneF ≡ fin false 3 (negsuc 1)
-unfolding two-samples wordPeak run floorI64 ceilI64 mul ofBits jsMax under isNan lt
-largest = refl
+-- three words: over frames 0 to 9, over the loud frames, and one that ends before it starts
+abbrev three : Words
+three = words (time 0 ∷ time 2 ∷ time 20 ∷ []) (time 10 ∷ time 30 ∷ time 10 ∷ []) (4 ∷ 4 ∷ 4 ∷ []) (3 ∷ 3 ∷ 3 ∷ []) (1 ∷ 2 ∷ 3 ∷ [])
 
-witness-accepted : peakCall two-samples zeroF oneF ≡ Accepted (fin false 3 (negsuc 1))
-unfolding two-samples le lt eq ofBits
-witness-accepted = accepted-exactly _ _ _ .0 (lit≤ tt, ((refl, refl), (refl, refl))) ∙ ap Accepted largest
+-- of spans 0 and 1, and of a phrase 7 that has no span
+abbrev numbers : List ℕ
+numbers = 0 ∷ 7 ∷ 1 ∷ []
 
--- from -1 s to 1 s
-minusOneF : Float
-minusOneF = fin true 1 (pos 0)
+abbrev two-spans : Spans
+two-spans = spans (time 0 ∷ time 10 ∷ []) (time 10 ∷ time 30 ∷ []) (1 ∷ 1 ∷ [])
 
-witness-nan : peakCall two-samples minusOneF oneF ≡ Accepted nan
-unfolding two-samples minusOneF floorI64 ceilI64 mul le lt eq ofBits
-witness-nan = accepted-exactly _ _ _ .0 (lit≤ tt, ((refl, refl), (refl, refl))) ∙ ap Accepted (nan-exactly _ _ _ .0 (inl (ltZ-yes tt, ltZ-yes tt)))
+abbrev places : List ℕ
+places = 5 ∷ 6 ∷ 9 ∷ []
 
--- any number above the limit
-too-many : (n : ℕ) → 57600000 < n → peakCall (replicate n zeroF) zeroF oneF ≡ Refused Counts
-too-many n h = refused-4-exactly _ _ _ .0 (subst (λ (k : ℕ). 57600000 < k) (sym (length-replicate n zeroF)) h)
+counts-its-span : tallyCall three numbers two-spans heard one 4800 places ≡ output Accepted (8 ∷ 0 ∷ 9 ∷ [])
+unfolding tallyCall phrasesRule chain inOrder ofWords withLevels withList withSpans withPlaces uneven unevenSpans manySpans first any timeOf loudRow tallies spanTally spanTurn loudUnder coverTurn covers table each frameFromZero frameAt floorI64 mul div lt le eq round size span climb units odd ofBits ofFields trailingZeros
+counts-its-span = refl
 
-witness-4 : (samples : List Float) × (peakCall samples zeroF oneF ≡ Refused Counts)
-witness-4 = (replicate 57600001 zeroF, too-many 57600001 (lit< tt))
+-- two phrase numbers for three words
+refuses-3 : tallyCall three (0 ∷ 7 ∷ []) two-spans heard one 4800 places ≡ output (Refused Lengths) places
+unfolding tallyCall phrasesRule chain inOrder ofWords withLevels withList withSpans withPlaces uneven unevenSpans manySpans first
+refuses-3 = refl
 
-witness-1 : peakCall two-samples zeroF nan ≡ Refused Time
-unfolding two-samples le lt eq ofBits
-witness-1 = refused-1-exactly _ _ _ .0 (lit≤ tt, inr (λ h. true≢false (sym (h .0))))
+-- a span that counts 4,097 words
+refuses-4 : tallyCall three numbers (spans (time 0 ∷ []) (time 10 ∷ []) (4097 ∷ [])) heard one 4800 places ≡ output (Refused Counts) places
+unfolding tallyCall phrasesRule chain inOrder ofWords withLevels withList withSpans withPlaces uneven unevenSpans manySpans first any
+refuses-4 = refl
+
+-- a span that ends at no time
+refuses-1 : tallyCall three numbers (spans (time 0 ∷ []) (nan ∷ []) (1 ∷ [])) heard one 4800 places ≡ output (Refused Time) places
+unfolding tallyCall phrasesRule chain inOrder ofWords withLevels withList withSpans withPlaces uneven unevenSpans manySpans first any timeOf lt le eq round size span climb units odd ofBits ofFields trailingZeros
+refuses-1 = refl
+
+-- a word of no letters
+refuses-2 : tallyCall (words (time 0 ∷ []) (time 10 ∷ []) (0 ∷ []) (3 ∷ []) (1 ∷ [])) (0 ∷ []) two-spans heard one 4800 places ≡ output (Refused Letters) places
+unfolding tallyCall phrasesRule chain inOrder ofWords withLevels withList withSpans withPlaces uneven unevenSpans manySpans first any timeOf lt le eq round size span climb units odd ofBits ofFields trailingZeros
+refuses-2 = refl
+
+-- 30 levels, where the samples give 31, and too few places besides
+refuses-7 : tallyCall three numbers two-spans heard one 4960 (5 ∷ []) ≡ output (Refused Levels) (5 ∷ [])
+unfolding tallyCall phrasesRule chain inOrder ofWords withLevels withList withSpans withPlaces uneven unevenSpans manySpans first any timeOf lt le eq round size span climb units odd ofBits ofFields trailingZeros
+refuses-7 = refl
+
+-- one place for two spans
+refuses-6 : tallyCall three numbers two-spans heard one 4800 (5 ∷ []) ≡ output (Refused Places) (5 ∷ [])
+unfolding tallyCall phrasesRule chain inOrder ofWords withLevels withList withSpans withPlaces uneven unevenSpans manySpans first any timeOf lt le eq round size span climb units odd ofBits ofFields trailingZeros
+refuses-6 = refl

@@ -1,2 +1,3 @@
--- The largest magnitude under a word.
-pub mod Peak
+-- The loud frames under each span's words.
+pub mod Tally
+pub mod Parts

@@ -1,105 +1,145 @@
-// What a word's samples hold: the largest magnitude (transcriber.rs, peak).
+// The loud frames under each span's words: document 01's tally.
 ghost use mathlib.Core.Path.{_≡_};
-ghost use Prim.Native.Nat.{_≤_, min};
-ghost use lib.IntN.{pos};
-ghost use lib.ListN.{length};
-ghost use lib.Ieee.{binary64, ofBits};
-ghost use Rattle.base.specs.Whole.{toNat};
-ghost use Rattle.base.specs.Loop.{range};
-ghost use Rattle.base.specs.Refusals.{first};
-ghost use Rattle.tally.specs.Peak.{magnitude as magnitudeOf, peakTurn, wordPeak, tests, peakCall};
-use base::Refusal;
+ghost use mathlib.Core.List.{_++_};
+ghost use Prim.Native.Nat.{_+_, _<_, _≤_, _^_};
+ghost use lib.ListN.{length, getD, take, drop};
+ghost use Rattle.base.specs.Words.{words, spans, edges};
+ghost use Rattle.envelope.specs.Levels.{loudRow};
+ghost use Rattle.tally.specs.Tally.{loudUnder, tallies, output, tallyCall};
+ghost use Rattle.tally.specs.Parts.{loudTurn, loudBetween, addedAt, zeros};
 use base::Rule;
+use base::Times;
+use checks::Answer;
 
-// Samples in a second.
-const RATE: f64 = 16000.0;
-
-// What a call answers: the level, or why it refuses.
-pub enum Level {
-    Accepted(f64),
-    Refused(Refusal),
-}
-
-// A number without its sign; NaN stays (Rust's x.abs()).
-fn magnitude(x: f64) -> f64
-    ensures { λ r. ⌜ r ≡ magnitudeOf x ⌝ }
+// One frame more, where frame k is loud.
+fn counted(levels: &[f64], floor: f64, k: usize, n: usize) -> usize
+    requires { ⌜ n ≤ 2 ^ 40 ⌝ }
+    ensures { λ r. ⌜ (r ≡ loudTurn (loudRow floor (now (levels .entry))) k n) × (r ≤ n + 1) ⌝ }
 {
-    if x < 0.0 {
-        return -x;
-    }
-    if x == 0.0 {
-        return 0.0;
-    }
-    x
-}
-
-// The largest magnitude of the samples from one to before another (transcriber.rs, peak).
-fn loudest(samples: &[f32], from: usize, to: usize) -> f64
-    requires { ⌜ to ≤ length (now samples) ⌝ }
-    ensures { λ r. ⌜ r ≡ range (peakTurn (now (samples .entry))) (pos from) (pos to) (ofBits binary64 0) ⌝ }
-{
-    let mut peak = 0.0;
-    let mut i = from;
-    while i < to {
-        let s = std::num::f32_to_f64_with_nan(samples[i]);
-        peak = js::js_max(peak, magnitude(s));
-        i += 1;
-    }
-    peak
-}
-
-// The sample that a range ends before: k, or n where there are fewer; 0 where k is before the first sample.
-fn end_index(n: usize, k: i64) -> usize
-    ensures { λ r. ⌜ r ≡ min n (toNat k) ⌝ }
-{
-    if k < 0 {
-        return 0;
-    }
-    let end = k as usize;
-    if end < n {
-        return end;
+    if envelope::loud_at(levels, floor, k) {
+        return n + 1;
     }
     n
 }
 
-// The largest magnitude of the samples that a word spans, for any times; 0 / 0, NaN, where it reaches before sample 0 (transcriber.rs, peak).
-fn word_peak(samples: &[f32], start: f64, end: f64) -> f64
-    ensures { λ r. ⌜ r ≡ wordPeak (now (samples .entry)) start end ⌝ }
+// How many frames from one to before another are loud.
+fn loud_count(levels: &[f64], floor: f64, from: usize, to: usize) -> usize
+    requires { ⌜ to ≤ 2 ^ 40 ⌝ }
+    ensures { λ r. ⌜ (r ≡ loudBetween (loudRow floor (now (levels .entry))) from to) × (r ≤ to) ⌝ }
 {
-    let from = frames::floor_i64(start * RATE);
-    let to = frames::ceil_i64(end * RATE);
-    if from < 0 {
-        if from < to {
-            return 0.0 / 0.0;
-        }
-        return 0.0;
+    let mut n = 0;
+    let mut k = from;
+    while k < to {
+        n = counted(levels, floor, k, n);
+        k += 1;
     }
-    loudest(samples, from as usize, end_index(samples.len(), to))
+    n
 }
 
-// The first refusal that applies, of 4 and 1.
-fn judge(samples: &[f32], start: f64, end: f64) -> Rule
-    ensures { λ r. ⌜ r ≡ first (tests (now (samples .entry)) start end) ⌝ }
+// The loud frames under a word: from its start's frame to before its end's, both from zero.
+fn loud_under(levels: &[f64], floor: f64, w: Times) -> usize
+    requires { ⌜ length (now levels) ≤ 2 ^ 40 ⌝ }
+    ensures { λ r. ⌜ (r ≡ loudUnder (loudRow floor (now (levels .entry))) w) × (r ≤ 2 ^ 40) ⌝ }
 {
-    if size_tests::many_samples(samples.len()) {
-        return Rule::Breaks(Refusal::Counts);
-    }
-    if time_tests::bad_time(start) {
-        return Rule::Breaks(Refusal::Time);
-    }
-    if time_tests::bad_time(end) {
-        return Rule::Breaks(Refusal::Time);
-    }
-    Rule::Fine
+    let from = frames::frame_index(w.start);
+    let to = base::least(levels.len(), frames::frame_index(w.end));
+    loud_count(levels, floor, from, to)
 }
 
-// The largest magnitude of the samples that a word spans, for times within the limits (transcriber.rs, peak).
-pub fn peak(samples: &[f32], start: f64, end: f64) -> Level
-    ensures { λ r. ⌜ r ≡ peakCall (now (samples .entry)) start end ⌝ }
+// Makes the first n places zero.
+fn clear_places(places: &mut [usize], n: usize)
+    requires { ⌜ n ≤ length (now places) ⌝ }
+    ensures { λ _. ⌜ now (places .exit) ≡ zeros n ++ drop n (now (places .entry)) ⌝ }
 {
-    let rule = judge(samples, start, end);
+    let mut i = 0;
+    while i < n {
+        places[i] = 0;
+        i += 1;
+    }
+}
+
+// Adds a word's loud frames at the place of its number p, where one of n spans has that number.
+fn add_word(levels: &[f64], floor: f64, w: Times, p: u32, n: usize, places: &mut [usize])
+    requires { ⌜ (length (now levels) ≤ 2 ^ 40) × ((n ≤ length (now places)) × (p < n → getD (now places) p 0 ≤ 2 ^ 52)) ⌝ }
+    ensures { λ _. ⌜ now (places .exit) ≡ addedAt n p (loudUnder (loudRow floor (now (levels .entry))) w) (now (places .entry)) ⌝ }
+{
+    let at = p as usize;
+    if at < n {
+        places[at] = places[at] + loud_under(levels, floor, w);
+    }
+}
+
+// Adds every word's loud frames at the place of its number; the first n places are zero before.
+fn add_words(
+    levels: &[f64],
+    floor: f64,
+    starts: &[f64],
+    ends: &[f64],
+    phrases: &[u32],
+    n: usize,
+    places: &mut [usize],
+)
+    requires { ⌜ (length (now levels) ≤ 2 ^ 40) × ((length (now starts) ≤ 4096) × ((length (now ends) ≡ length (now starts)) × ((length (now phrases) ≡ length (now starts)) × ((n ≤ length (now places)) × (take n (now places) ≡ zeros n))))) ⌝ }
+    ensures { λ _. ⌜ now (places .exit) ≡ tallies (loudRow floor (now (levels .entry))) (now (phrases .entry)) (edges (now (starts .entry)) (now (ends .entry))) n ++ drop n (now (places .entry)) ⌝ }
+{
+    let mut i = 0;
+    while i < starts.len() {
+        let w = Times {
+            start: starts[i],
+            end: ends[i],
+        };
+        add_word(levels, floor, w, phrases[i], n, places);
+        i += 1;
+    }
+}
+
+// The tally of each span's words, of words and spans within the limits (document 01, Tally).
+pub fn tally_at(
+    levels: &[f64],
+    floor: f64,
+    count: usize,
+    starts: &[f64],
+    ends: &[f64],
+    letters: &[u32],
+    units: &[u32],
+    keys: &[u32],
+    phrases: &[u32],
+    span_starts: &[f64],
+    span_ends: &[f64],
+    counts: &[u32],
+    places: &mut [usize],
+) -> Answer
+    ensures { λ r. ⌜ output r (now (places .exit)) ≡ tallyCall (words (now (starts .entry)) (now (ends .entry)) (now (letters .entry)) (now (units .entry)) (now (keys .entry))) (now (phrases .entry)) (spans (now («span_starts» .entry)) (now («span_ends» .entry)) (now (counts .entry))) (now (levels .entry)) floor count (now (places .entry)) ⌝ }
+{
+    let rule = calls::phrases_rule(
+        starts,
+        ends,
+        letters,
+        units,
+        keys,
+        phrases.len(),
+        span_starts,
+        span_ends,
+        counts,
+        levels.len(),
+        count,
+        places.len(),
+        span_starts.len(),
+    );
     match rule {
-        Rule::Fine => Level::Accepted(word_peak(samples, start, end)),
-        Rule::Breaks(r) => Level::Refused(r),
+        Rule::Breaks(why) => Answer::Refused(why),
+        Rule::Fine => {
+            clear_places(places, span_starts.len());
+            add_words(
+                levels,
+                floor,
+                starts,
+                ends,
+                phrases,
+                span_starts.len(),
+                places,
+            );
+            Answer::Accepted
+        }
     }
 }

@@ -1,4 +1,4 @@
--- `c_api::qiluvrait_peak` meets its contract: what `tally::peak` answers. Assumes nothing.
+-- `c_api::qiluvrait_peak` meets its contract: what `peak::peak` answers. Assumes nothing.
 use native.Mathlib.Omega.{arith}
 use mathlib.Core.Path.{ap, _∙_}
 use Rattle.c_api.specs.Answers.{levelOf}

@@ -1,0 +1,2 @@
+-- The words that loops left, in the first places.
+mod Left

@@ -1,0 +1,3 @@
+-- A full run after its levels.
+pub mod AfterLevels
+pub mod Parts

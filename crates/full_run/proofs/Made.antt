@@ -1,0 +1,115 @@
+-- What the code makes: the tests as the definition has them, the levels in the first places, and the answer of a run. Assumes nothing.
+use Prim.Native.Nat.{ℕ, _-_, _/_, _≤_, _^_, min}
+use mathlib.Core.Path.{_≡_, refl, sym, ap, subst, _∙_}
+use mathlib.Core.List.{List, _++_}
+use native.Mathlib.Omega.{arith}
+use native.Mathlib.Nat.{sub-zero}
+use borrow.Author.Tests.{eq-eqb}
+use lib.ListN.{length, drop}
+use lib.Ieee.{Float}
+use Rattle.base.specs.Words.{Words, words, Spans, spans, count, part}
+use Rattle.base.specs.declared.Refusal.{Refusal}
+use Rattle.base.specs.declared.Rule.{Rule}
+use Rattle.base.specs.declared.Rule.the-variants.{Fine, Breaks}
+use Rattle.size_tests.specs.Limits.{otherLevels}
+use Rattle.checks.specs.declared.Applies.{Applies}
+use Rattle.checks.specs.Order.{chain}
+use Rattle.calls.specs.Calls.{ofWords, withLevels, withSpans, withPlaces}
+use Rattle.calls.proofs.Within.{one-length, letters-most}
+use Rattle.levels.specs.Levels.{hop, frames, levels}
+use Rattle.levels.proofs.Places.{length-levels, front-levels}
+use Rattle.floors.specs.Floors.{floor}
+use Rattle.envelope.specs.Levels.{loudRow, quietRow}
+use Rattle.pieces.specs.Pieces.{need}
+use Rattle.pieces.specs.Parts.{startsOver, endsOver, Ready as PiecesReady}
+use Rattle.fit_file.specs.Calls.{workPlaces}
+use Rattle.run_rule.specs.Parts.{appliesTo}
+use Rattle.run_words.specs.Parts.{Ready, FewLetters}
+use Rattle.after_levels.specs.AfterLevels.{Run, runOn}
+use Rattle.after_levels.specs.Parts.{Running}
+use Rattle.after_levels.specs.declared.Outcome.{Outcome}
+use Rattle.full_run.specs.FullRun.{Input, input, runOf, withSamples, runApplies, output, accepted, fullRun}
+use Rattle.full_run.specs.declared.Report.{Report}
+use Rattle.full_run.specs.declared.Answer.{Answer}
+use Rattle.full_run.specs.declared.Answer.the-variants.{Accepted, Refused}
+use Rattle.full_run.proofs.Promises.{RunWithin, within, run-by}
+
+-- ---- a recording has as many levels as frames: no test of levels applies
+own-levels : (samples : ℕ) (ws : Words) → withLevels (samples / hop) samples (ofWords ws) ≡ withSamples samples (ofWords ws)
+unfolding withLevels withSamples ofWords
+own-levels samples ws = rw (eq-eqb (samples / hop) (samples / hop) refl)
+
+applies-are : (samples : List Float) (ws : Words) (spans : Spans) (phrases : List ℕ) (ls : List Float) (s e : List ℕ) (work : ℕ)
+    → appliesTo (length samples) ws spans (length phrases) (length ls) (min (length s) (length e)) work ≡ runApplies (input samples ws spans phrases ls s e work)
+unfolding appliesTo runApplies
+applies-are samples ws spans phrases ls s e work = rw (own-levels (length samples) ws)
+
+-- ---- the levels in the first places, and their floor
+pub heard-is : {ls : List Float} {f : Float} (samples places : List Float) → ls ≡ levels samples ++ drop (frames samples) places → f ≡ floor (part 0 (frames samples) ls)
+    → (ls ≡ levels samples ++ drop (frames samples) places) × (f ≡ floor (levels samples))
+heard-is {ls} samples places h e = (h, e ∙ rw (sub-zero, front-levels samples places ls h))
+
+module _ (samples : List Float) (ws : Words) (spans : Spans) (phrases : List ℕ) (places : List Float) (s e : List ℕ) (a b d : ℕ) where
+  abbrev given : Input
+  given = input samples ws spans phrases places s e (workPlaces a b d)
+
+  -- ---- what an accepted run has
+  pub hear-ready : chain (runApplies given) ≡ Fine → (length samples ≤ 57600000) × (frames samples ≤ length places)
+  hear-ready h = let w = within given h in (w .few-samples, w .level-places)
+
+  pub after-ready : {ls : List Float} → chain (runApplies given) ≡ Fine → ls ≡ levels samples ++ drop (frames samples) places
+      → Ready ws spans (length phrases) (length (part 0 (frames samples) ls)) a b d
+      × (FewLetters (ws .letters) × PiecesReady (length (part 0 (frames samples) ls)) (length samples) (length s) (length e))
+  after-ready {ls} h k =
+      let w = within given h in
+      let v = w .words-within in
+      let q = w .spans-within in
+      let long : length (part 0 (frames samples) ls) ≡ frames samples = rw (sub-zero, front-levels samples places ls k) (length-levels samples) in
+      rw long (
+        (
+          one-length v,
+          (
+            omega (arith, v .keys-as-long, v .few),
+            (
+              q .ends-as-long,
+              (
+                q .counts-as-long,
+                (
+                  q .few,
+                  (omega (arith, w .few-samples), (w .phrase-places, (omega (arith, w .work-places), (omega (arith, w .work-places), omega (arith, w .work-places))))),
+                ),
+              ),
+            ),
+          ),
+        ),
+        (letters-most v, record { few = w .few-samples; all = refl; from = w .start-places; to = w .end-places }),
+      )
+
+  -- ---- the answer, and what the lent places hold
+  pub accept-is : {ls : List Float} {f : Float} {out : Outcome} {after : Words} {numbers starts ends : List ℕ} → (ls ≡ levels samples ++ drop (frames samples) places) × (f ≡ floor (levels samples))
+      → Running (runOn (loudRow f (part 0 (frames samples) ls)) (quietRow f (part 0 (frames samples) ls)) (length samples) spans phrases ws) (count ws) out after numbers s e starts ends
+      → output (Accepted (record { floor = f; pieces = out .pieces; words = out .words; found = out .found })) after numbers ls starts ends ≡ accepted given (runOf given)
+  unfolding runOf startsOver endsOver
+  accept-is {ls} {f} {out} {after} {numbers} {starts} {ends} (h, k) running =
+      let front : part 0 (frames samples) ls ≡ levels samples = rw (sub-zero, front-levels samples places ls h) in
+      let r : Running (runOn (loudRow (floor (levels samples)) (levels samples)) (quietRow (floor (levels samples)) (levels samples)) (length samples) spans phrases ws) (count ws) out after numbers s e starts ends
+      = subst (λ (g : Float). Running (runOn (loudRow g (levels samples)) (quietRow g (levels samples)) (length samples) spans phrases ws) (count ws) out after numbers s e starts ends) k
+      (subst (λ (l : List Float). Running (runOn (loudRow f l) (quietRow f l) (length samples) spans phrases ws) (count ws) out after numbers s e starts ends) front running) in
+      rw (r .words, r .phrases, h, k, r .pieces, r .count, r .found, r .piece-starts, r .piece-ends, length-levels samples)
+
+  module _ {p w₀ w : ℕ} {rule : Rule} (ep : p ≡ min (length s) (length e)) (e₀ : w₀ ≡ min b d) (ew : w ≡ min a w₀)
+      (judged : rule ≡ chain (appliesTo (length samples) ws spans (length phrases) (length places) p w)) where
+    rule-is : rule ≡ chain (runApplies given)
+    rule-is = judged ∙ ap chain (rw (ep, ew, e₀) (applies-are samples ws spans phrases places s e (workPlaces a b d)))
+
+    -- ---- refused, by what the tests found
+    pub refused-made : {why : Refusal} → rule ≡ Breaks why → output (Refused why) ws phrases places s e ≡ fullRun given
+    refused-made h = sym (run-by given (sym rule-is ∙ h))
+
+    -- ---- accepted, by what the tests found
+    pub all-fine : rule ≡ Fine → chain (runApplies given) ≡ Fine
+    all-fine h = sym rule-is ∙ h
+
+    pub accepted-made : {r : Answer} {after : Words} {numbers starts ends : List ℕ} {ls : List Float} → rule ≡ Fine → output r after numbers ls starts ends ≡ accepted given (runOf given)
+        → output r after numbers ls starts ends ≡ fullRun given
+    accepted-made h k = k ∙ sym (run-by given (all-fine h))

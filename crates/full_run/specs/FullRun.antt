@@ -1,0 +1,98 @@
+-- Document 01, "Full run". Assumes nothing.
+use Prim.Native.Nat.{ℕ, min}
+use mathlib.Core.Bool.{_||_}
+use mathlib.Core.Path.{_≡_}
+use mathlib.Core.List.{List, _++_, map}
+use lib.ListN.{length, drop}
+use lib.Ieee.{Float}
+use Rattle.base.specs.Words.{Words, Spans, count, wordsInPlaces}
+use Rattle.base.specs.declared.Rule.{Rule}
+use Rattle.base.specs.declared.Rule.the-variants.{Fine, Breaks}
+use Rattle.size_tests.specs.Limits.{manySamples}
+use Rattle.checks.specs.declared.Applies.{Applies}
+use Rattle.checks.specs.Order.{chain}
+use Rattle.calls.specs.Calls.{ofWords, withSpans, withPlaces}
+use Rattle.levels.specs.Levels.{frames, levels}
+use Rattle.floors.specs.Floors.{floor}
+use Rattle.envelope.specs.Levels.{loudRow, quietRow}
+use Rattle.pieces.specs.Pieces.{need, over}
+use Rattle.after_levels.specs.AfterLevels.{Run, runOn}
+use Rattle.full_run.specs.declared.Report.{Report}
+use Rattle.full_run.specs.declared.Answer.{Answer}
+use Rattle.full_run.specs.declared.Answer.the-variants.{Accepted, Refused}
+
+-- ---- What a call is given: the recording, words and spans, what the lent places hold, and how many words find place in the work space.
+pub record Input : Type 0 where
+  pub samples : List Float
+  pub words : Words
+  pub spans : Spans
+  pub phrases : List ℕ
+  pub levels : List Float
+  pub pieceStarts : List ℕ
+  pub pieceEnds : List ℕ
+  pub work : ℕ
+
+abbrev pub input : List Float → Words → Spans → List ℕ → List Float → List ℕ → List ℕ → ℕ → Input
+input samples ws spans phrases ls s e work =
+    record { samples = samples; words = ws; spans = spans; phrases = phrases; levels = ls; pieceStarts = s; pieceEnds = e; work = work }
+
+-- ---- "Levels, ..": the run on the recording's own levels and their floor.
+unfoldable pub runOf : Input → Run
+runOf i =
+    let ls = levels (i .samples) in
+    runOn (loudRow (floor ls) ls) (quietRow (floor ls) ls) (length (i .samples)) (i .spans) (i .phrases) (i .words)
+
+-- ---- And what applies of so many samples: 4.
+unfoldable pub withSamples : ℕ → Applies → Applies
+withSamples samples a = record {
+  lengths = a .lengths;
+  counts = a .counts || manySamples samples;
+  times = a .times;
+  letters = a .letters;
+  levels = a .levels;
+  places = a .places;
+  cut = a .cut;
+}
+
+-- ---- Refusals 3, 4, 1, 2, 6: "It needs the places of its levels and pieces, and a phrase number and a work place for every word."
+unfoldable pub runApplies : Input → Applies
+runApplies i =
+    let given = withSpans (i .spans) (withSamples (length (i .samples)) (ofWords (i .words))) in
+    let heard = withPlaces (length (i .levels)) (frames (i .samples)) given in
+    let cut = withPlaces (min (length (i .pieceStarts)) (length (i .pieceEnds))) (need (frames (i .samples))) heard in
+    withPlaces (i .work) (count (i .words)) (withPlaces (length (i .phrases)) (count (i .words)) cut)
+
+-- ---- What a call gives back, and what the lent places hold afterwards.
+pub record Output : Type 0 where
+  pub answer : Answer
+  pub words : Words
+  pub phrases : List ℕ
+  pub levels : List Float
+  pub pieceStarts : List ℕ
+  pub pieceEnds : List ℕ
+
+abbrev pub output : Answer → Words → List ℕ → List Float → List ℕ → List ℕ → Output
+output a ws phrases ls s e = record { answer = a; words = ws; phrases = phrases; levels = ls; pieceStarts = s; pieceEnds = e }
+
+-- ---- "Given back: the floor, the piece count, the final word count and `found`."
+abbrev pub reportOf : Float → Run → Report
+reportOf f run = record { floor = f; pieces = length (run .pieces); words = count (run .words); found = run .found }
+
+-- ---- The words in their places: "Places past it become all zero." The levels and the pieces in theirs: "further places stay".
+abbrev pub accepted : Input → Run → Output
+accepted i run =
+    let ls = levels (i .samples) in
+    output (Accepted (reportOf (floor ls) run)) (wordsInPlaces (count (i .words)) (run .words)) (run .phrases)
+    (ls ++ drop (length ls) (i .levels)) (over (map (λ p. p .start) (run .pieces)) (i .pieceStarts)) (over (map (λ p. p .end) (run .pieces)) (i .pieceEnds))
+
+abbrev pub byRule : Rule → Input → Output
+byRule Fine i = accepted i (runOf i)
+byRule (Breaks r) i = output (Refused r) (i .words) (i .phrases) (i .levels) (i .pieceStarts) (i .pieceEnds)
+
+unfoldable pub fullRun : Input → Output
+fullRun i = byRule (chain (runApplies i)) i
+
+-- ---- The work space alone is free, and only after acceptance; a refusal leaves it as it was.
+unfoldable pub Unchanged : {A : Type 0} → Answer → List A → List A → Type 0
+Unchanged (Accepted r) before after = Unit
+Unchanged (Refused r) before after = after ≡ before

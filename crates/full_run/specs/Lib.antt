@@ -1,0 +1,2 @@
+-- The full run.
+pub mod FullRun

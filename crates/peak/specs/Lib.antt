@@ -1,0 +1,2 @@
+-- The largest magnitude under a word.
+pub mod Peak

@@ -1,0 +1,2 @@
+-- The tests in a row.
+mod Tests

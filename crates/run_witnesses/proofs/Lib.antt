@@ -1,0 +1,2 @@
+-- Computed inputs of the full run.
+mod Witnesses

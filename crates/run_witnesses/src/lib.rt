@@ -1,0 +1,1 @@
+// Theorems alone: computed inputs of the full run, one for each answer.

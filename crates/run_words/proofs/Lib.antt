@@ -1,0 +1,3 @@
+-- Laws of the stages in a row.
+pub mod Places
+mod Stages

@@ -1,0 +1,3 @@
+-- The stages of a full run on the words that loops left.
+pub mod Stages
+pub mod Parts

@@ -1,0 +1,2 @@
+-- Tails, onsets and ends in a row.
+mod Row
