@@ -1,17 +1,20 @@
 /*
  * qiluvrait: quiet points and word times for recorded speech.
  *
- * The functions of the static library libc_api.a (`rt staticlib c_api` makes it), for C99 and C++.
- * Each takes every value of its arguments, keeps no state, reads and writes no memory but what it is
- * lent, and may be called from several threads at once. Where NaN is returned or written, its
- * sign and payload are free. A pointer is lent with the number of its elements, and no two lent parts overlap.
+ * The functions of the static library libc_api.a (`rt staticlib c_api` makes it; `tools/build-library`
+ * makes libqiluvrait.a and libqiluvrait.so of it), for C99 and C++ on x86-64 Linux. Each takes every value
+ * of its arguments, keeps no state, reads and writes no memory but what it is lent, and may be called from
+ * several threads at once. Where NaN is returned or written, its sign and payload are free.
+ *
+ * What is lent: a list is a pointer followed by the number of its elements. The caller sees to it that
+ * - the pointer isn't NULL, and is aligned for its type, also where the number is 0: a list without
+ *   elements is any such pointer, which is neither read nor written through;
+ * - all its elements are there; places that are only written may hold any bytes;
+ * - no two lists of one call overlap, and until the call returns nothing else writes to them, or reads
+ *   those that the call writes.
  *
  * A call that can refuse answers a refusal: 0 where it accepts, else document 01's number, and then
- * lent memory keeps its bits. Here: 1 a time outside its range, 2 letters or units outside theirs,
- * 3 lists of words, with their phrase numbers where those are taken, or of spans that differ in length,
- * 4 too many samples, words or spans, or too large a span count, 6 too few places for the result or work
- * space, 7 a number of levels that isn't samples / 160, rounded down. Where several apply, the first of
- * 3, 4, 1, 2, 7, 6.
+ * lent memory keeps its bits. Where several apply, the first of 3, 4, 1, 2, 7, 6.
  *
  * Times are in seconds. A frame is 160 samples at 16,000 samples a second: 10 ms.
  */
@@ -25,6 +28,20 @@
 #ifdef __cplusplus
 extern "C" {
 #endif
+
+/* The numbers of a refusal, as document 01 has them. 5 is the program fitlist's alone, and no call answers 8. */
+enum qiluvrait_refusal {
+    QILUVRAIT_ACCEPTED = 0,
+    QILUVRAIT_REFUSED_TIME = 1,    /* a time outside its range */
+    QILUVRAIT_REFUSED_LETTERS = 2, /* letters or units outside their range */
+    QILUVRAIT_REFUSED_LENGTHS = 3, /* lists that belong together differ in length: words, with their phrase
+                                      numbers where those are taken, or spans */
+    QILUVRAIT_REFUSED_COUNTS = 4,  /* too many samples, words or spans, or too large a span count */
+    QILUVRAIT_REFUSED_LAYOUT = 5,  /* the job file breaks its layout */
+    QILUVRAIT_REFUSED_PLACES = 6,  /* too few places for the result or work space */
+    QILUVRAIT_REFUSED_LEVELS = 7,  /* the number of levels isn't samples / 160, rounded down */
+    QILUVRAIT_REFUSED_CUT = 8      /* in the pieces, a cut not beyond its piece's start */
+};
 
 /* ECMAScript's Math.min: NaN if either is NaN; else the lower one, -0 being below +0. */
 double qiluvrait_js_min(double a, double b);

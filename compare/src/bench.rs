@@ -1,6 +1,7 @@
 //! Times both sides on the same inputs in one run.
 
 use std::hint::black_box;
+use std::sync::Mutex;
 use std::time::Instant;
 
 use crate::ffi::*;
@@ -11,7 +12,46 @@ use crate::transcript::envelope::frame_at;
 /// Inputs of one run.
 const INPUTS: usize = 100_000;
 
-pub fn median(mut values: Vec<f64>) -> f64 {
+/// What is to be reached: a row, and the most that ours may take over the Rust's.
+const TARGETS: [(&str, f64); 4] = [
+    ("envelope of an hour", 0.95),
+    ("pieces of an hour", 0.8),
+    ("full run of an hour, heard once", 0.95),
+    ("fitlist by a file, heard once", 1.0),
+];
+
+/// The rows that were printed: their names, and ours over the Rust's.
+static ROWS: Mutex<Vec<(String, f64)>> = Mutex::new(Vec::new());
+
+/// Prints what the rows after it are of, and their columns.
+pub fn head(text: &str, unit: &str) {
+    println!("{text}; medians, {unit} a call");
+    println!(
+        "{:<42} {:>10} {:>10} {:>8}",
+        "", "ours", "the Rust's", "ratio"
+    );
+}
+
+/// Prints a row: the medians of both sides, and ours over the Rust's.
+pub fn print(name: &str, ours: Vec<f64>, rust: Vec<f64>) {
+    let (a, b) = (median(ours), median(rust));
+    let ratio = a / b;
+    println!("{name:<42} {a:>10.3} {b:>10.3} {ratio:>8.3}");
+    ROWS.lock().unwrap().push((name.to_string(), ratio));
+}
+
+/// Prints the targets, and whether each is reached.
+pub fn print_targets() {
+    println!("targets, ours over the Rust's");
+    let rows = ROWS.lock().unwrap();
+    for (name, most) in TARGETS {
+        let (_, ratio) = rows.iter().find(|(row, _)| row == name).unwrap();
+        let word = if *ratio <= most { "pass" } else { "fail" };
+        println!("{name:<42} {ratio:>8.3} <= {most:<4.2} {word}");
+    }
+}
+
+fn median(mut values: Vec<f64>) -> f64 {
     values.sort_by(f64::total_cmp);
     values[values.len() / 2]
 }
@@ -33,8 +73,7 @@ fn row(name: &str, inputs: &[f64], runs: usize, ours: &dyn Fn(&[f64]), rust: &dy
             b.push(y);
         }
     }
-    let (a, b) = (median(a), median(b));
-    println!("{name:<16} {a:>10.2} {b:>10.2} {:>8.3}", a / b);
+    print(name, a, b);
 }
 
 /// A call for each input, of a function that the compiler does not see into.
@@ -64,11 +103,8 @@ macro_rules! pairs {
 /// Prints the table: medians over `runs` runs, in nanoseconds a call, and ours over the Rust's.
 pub fn bench(seed: u64, runs: usize) {
     let inputs = times(seed, INPUTS);
-    println!("{runs} runs of {INPUTS} times from 0 to 7,200 s; medians, nanoseconds a call");
-    println!(
-        "{:<16} {:>10} {:>10} {:>8}",
-        "", "ours", "the Rust's", "ratio"
-    );
+    let text = format!("{runs} runs of {INPUTS} times from 0 to 7,200 s");
+    head(&text, "nanoseconds");
     type Ours<T> = extern "C" fn(f64) -> T;
     type Rust<T> = fn(f64) -> T;
     row(

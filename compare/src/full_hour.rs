@@ -2,6 +2,7 @@
 
 use std::hint::black_box;
 
+use crate::bench::head;
 use crate::check::HeardWord;
 use crate::ffi::{self, Lending};
 use crate::full::Full;
@@ -41,10 +42,10 @@ pub fn bench(seed: u64, runs: usize, samples: Vec<f32>, heard: &Envelope) {
     let left = collapse_loops(&words).unwrap().words;
     let spans = words_alone::ordinary(&left, &mut random);
     let (n, n_spans, count) = (left.len(), spans.len(), samples.len());
-    println!(
-        "{runs} full runs of {count} samples, {MAX_WORDS} words, {n} after loops, {n_spans} spans; \
-         medians, milliseconds a call"
+    let text = format!(
+        "{runs} full runs of {count} samples, {MAX_WORDS} words, {n} after loops, {n_spans} spans"
     );
+    head(&text, "milliseconds");
     let mut full = Full {
         kind: "an hour",
         words,
@@ -66,5 +67,5 @@ pub fn bench(seed: u64, runs: usize, samples: Vec<f32>, heard: &Envelope) {
     print("full run of an hour, heard once", &full, &heard_once);
     full.spans.clear();
     print("full run of an hour, no spans", &full, &in_a_row);
-    print("the same, heard once", &full, &heard_once);
+    print("full run, no spans, heard once", &full, &heard_once);
 }

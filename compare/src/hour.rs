@@ -3,7 +3,7 @@
 use std::hint::black_box;
 use std::time::Instant;
 
-use crate::bench::median;
+use crate::bench::{head, print};
 use crate::ffi;
 use crate::inputs::Random;
 use crate::places::Places;
@@ -56,8 +56,7 @@ fn row(name: &str, runs: usize, ours: &mut dyn FnMut(), rust: &mut dyn FnMut()) 
             b.push(y);
         }
     }
-    let (a, b) = (median(a), median(b));
-    println!("{name:<16} {a:>10.3} {b:>10.3} {:>8.3}", a / b);
+    print(name, a, b);
 }
 
 /// Prints the table: medians over `runs` runs, in milliseconds a call, and ours over the Rust's.
@@ -67,15 +66,12 @@ pub fn bench(seed: u64, runs: usize) -> (Vec<f32>, Envelope) {
     let frames = samples.len() / HOP;
     let heard = envelope(&samples);
     let n = pieces(&heard, samples.len()).len();
-    println!("{runs} runs of an hour, {frames} frames, {n} pieces; medians, milliseconds a call");
-    println!(
-        "{:<16} {:>10} {:>10} {:>8}",
-        "", "ours", "the Rust's", "ratio"
-    );
+    let text = format!("{runs} runs of an hour, {frames} frames, {n} pieces");
+    head(&text, "milliseconds");
     let sound = || black_box(&samples[..]);
     // the Rust makes room for its answer in the call: so does ours
     row(
-        "envelope",
+        "envelope of an hour",
         runs,
         &mut || {
             let mut levels = Places::new(frames);
@@ -89,7 +85,7 @@ pub fn bench(seed: u64, runs: usize) -> (Vec<f32>, Envelope) {
     let levels = || black_box(&heard);
     let need = (frames - 1) / 1203 + 1;
     row(
-        "pieces",
+        "pieces of an hour",
         runs,
         &mut || {
             let Envelope { env, floor } = levels();

@@ -26,12 +26,12 @@ impl Case {
 
 /// Branches that were reached: a bit for each, by its place in `Compared::branches`.
 #[derive(Clone, Copy, Default)]
-pub struct Reached(u64);
+pub struct Reached(u128);
 
 impl Reached {
     /// Adds a branch where `yes` says so.
     pub fn add(&mut self, branch: usize, yes: bool) {
-        self.0 |= u64::from(yes) << branch;
+        self.0 |= u128::from(yes) << branch;
     }
 
     fn has(self, branch: usize) -> bool {
@@ -54,6 +54,10 @@ pub trait Compared: Sync {
     fn branches(&self) -> Vec<String> {
         Vec::new()
     }
+    /// So many random cases, or more, have to reach every branch.
+    fn enough(&self) -> u64 {
+        10_000
+    }
 }
 
 /// The random cases come in this many parts, each with a generator of its own, so that they are
@@ -61,8 +65,6 @@ pub trait Compared: Sync {
 const PARTS: u64 = 256;
 /// So many differences are printed.
 const SHOWN: usize = 5;
-/// So many random cases, or more, have to reach every branch.
-const ENOUGH: u64 = 10_000;
 
 #[derive(Default)]
 struct Found {
@@ -127,7 +129,7 @@ fn print_reached(entry: &dyn Compared, reached: &[u64], cases: u64) -> bool {
         let missed = if *count > 0 { "" } else { ": NOT REACHED" };
         println!("    {count:>12} {name}{missed}");
     }
-    cases < ENOUGH || reached.iter().all(|&count| count > 0)
+    cases < entry.enough() || reached.iter().all(|&count| count > 0)
 }
 
 /// Compares the limit cases and the random ones. Prints a line, and one for each branch, and says

@@ -2,7 +2,7 @@
 
 use std::hint::black_box;
 
-use crate::bench::median;
+use crate::bench::{head, print};
 use crate::check::{HeardWord, Text};
 use crate::ffi::{self, Over};
 use crate::hour::time;
@@ -11,6 +11,7 @@ use crate::recordings::MAX_SAMPLES;
 use crate::stages::STAGES;
 use crate::transcript::envelope::{Envelope, frame_seconds};
 use crate::transcript::loops::collapse_loops;
+use crate::transcript::transcriber::peak_between;
 use crate::words::{LAST, Lent, MAX_WORDS};
 use crate::words_alone;
 use crate::words_fit;
@@ -38,7 +39,7 @@ pub fn each(times: impl Fn(usize) -> (f64, f64)) -> Vec<HeardWord> {
 }
 
 /// The runs of loud frames, each from its first frame to past its last.
-fn bursts(heard: &Envelope) -> Vec<(i64, i64)> {
+pub fn bursts(heard: &Envelope) -> Vec<(i64, i64)> {
     let mut bursts = Vec::new();
     let mut start = None;
     for frame in 0..=heard.frames() {
@@ -95,8 +96,7 @@ pub fn row(
             b.push(y);
         }
     }
-    let (a, b) = (median(a), median(b));
-    println!("{name:<36} {a:>10.3} {b:>10.3} {:>8.3}", a / b);
+    print(name, a, b);
 }
 
 /// A row of the loops.
@@ -169,14 +169,26 @@ fn loud_up_to(frame: usize, frames: usize) -> Envelope {
     }
 }
 
+/// A row of the peaks under words.
+fn peaks(name: &str, runs: usize, words: &[HeardWord], samples: &[f32]) {
+    let ours = |_: &mut Lent| {
+        for word in black_box(words) {
+            black_box(ffi::peak(black_box(samples), word.start, word.end));
+        }
+    };
+    let rust = |_: &mut [HeardWord]| {
+        for word in black_box(words) {
+            black_box(peak_between(black_box(samples), word.start, word.end));
+        }
+    };
+    row(&format!("peak, {name}"), runs, &[], &ours, &rust);
+}
+
 /// Prints the table: medians over `runs` runs, in milliseconds a call, and ours over the Rust's.
-pub fn bench(seed: u64, runs: usize, heard: &Envelope) {
+pub fn bench(seed: u64, runs: usize, samples: &[f32], heard: &Envelope) {
     let frames = heard.env.len();
-    println!("{runs} runs of {MAX_WORDS} words, {frames} frames; medians, milliseconds a call");
-    println!(
-        "{:<36} {:>10} {:>10} {:>8}",
-        "", "ours", "the Rust's", "ratio"
-    );
+    let text = format!("{runs} runs of {MAX_WORDS} words, {frames} frames");
+    head(&text, "milliseconds");
     let mut random = Random::new(seed, 0);
     let words = ordinary(heard, &mut random);
     let mut threes = words.clone();
@@ -194,4 +206,11 @@ pub fn bench(seed: u64, runs: usize, heard: &Envelope) {
     slow_ends(runs, [&loud, &none]);
     words_alone::bench(runs, &words, &mut random);
     words_fit::bench(runs, &words, [heard, &loud, &none], &mut random);
+    peaks("ordinary", runs, &words, samples);
+    peaks(
+        "one over the hour",
+        runs,
+        &each(|_| (0.0, HOUR))[..1],
+        samples,
+    );
 }

@@ -351,6 +351,15 @@ module _ (p : ℕ → Bool) where
     ]
     go false t l more = absurd (omega arith)
 
+  -- ---- where a search downwards ends early, the test fails
+  pub down-found : (a : ℕ) → 0 < down p a → p (down p a) ≡ false
+  unfolding down
+  down-found zero h = absurd (omega arith)
+  down-found (suc a) h = go (p (suc a)) refl (down-found a) h where
+    go : (t : Bool) → p (suc a) ≡ t → (0 < down p a → p (down p a) ≡ false) → 0 < cond t (down p a) (suc a) → p (cond t (down p a) (suc a)) ≡ false
+    go true e more h = more h
+    go false e more h = e
+
   -- ---- where a search upwards ends early, the test fails
   pub up-found : (n b : ℕ) → up p n b < b + n → p (up p n b) ≡ false
   unfolding up
@@ -365,3 +374,12 @@ pub each-last : {S : Type 0} (f : ℕ → S → S) (n i : ℕ) (s : S) → each 
 unfolding each
 each-last f zero i s = let z : i + 0 ≡ i = omega arith in rw z
 each-last f (suc n) i s = let z : i + suc n ≡ suc i + n = omega arith in rw z (each-last f n (suc i) (f i s))
+
+-- a loop to e that stands at i, n turns later
+pub each-after : {S : Type 0} (f : ℕ → S → S) (e i n : ℕ) (s : S) {s′ : S} → i + n ≤ e → s′ ≡ each f n i s → each f (e - i) i s ≡ each f (e - (i + n)) (i + n) s′
+unfolding each
+each-after f e i zero s h t = let z : i + 0 ≡ i = omega arith in rw (z, t)
+each-after f e i (suc n) s h t =
+    let m : e - i ≡ suc (e - suc i) = omega arith in
+    let z : i + suc n ≡ suc i + n = omega arith in
+    rw (m, z) (each-after f e (suc i) n (f i s) (omega arith) t)

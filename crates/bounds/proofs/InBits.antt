@@ -31,15 +31,16 @@ use Rattle.bounds.proofs.Phrasing.{file-long}
 use Rattle.bounds.proofs.Small.{fit-file-small}
 use Rattle.bounds.proofs.Running.{full-run-small}
 
+-- ---- a finite number is no NaN
+pub small-number : (x : Float) → Small x → T (not (isNan x))
+unfolding isNan
+small-number nan h = absurd h
+small-number (inf s) h = absurd h
+small-number (fin s m e) h = tt
+
 -- ---- a finite number has one pattern: the number determines it, and it the number
 pub one-pattern : (x : Float) → Small x → (bits : ℕ) → Stores bits x → bits ≡ toBits binary64 x
-unfolding isNan
-one-pattern x h bits s = sym (toBits-ofBits binary64 bits (s .0) (subst (λ (y : Float). T (not (isNan y))) (sym (s .1)) (number x h))) ∙ ap (toBits binary64) (s .1)
-  where
-    number : (x : Float) → Small x → T (not (isNan x))
-    number nan h = absurd h
-    number (inf s) h = absurd h
-    number (fin s m e) h = tt
+one-pattern x h bits s = sym (toBits-ofBits binary64 bits (s .0) (subst (λ (y : Float). T (not (isNan y))) (sym (s .1)) (small-number x h))) ∙ ap (toBits binary64) (s .1)
 
 -- ---- and a double has its pattern: so of two doubles that are finite and below 2^13, equal patterns are equal numbers, and the other way round
 pub has-pattern : (x : Float) → T (fits binary64 x) → Stores (toBits binary64 x) x

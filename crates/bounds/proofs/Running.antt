@@ -9,13 +9,13 @@ use lib.Dec.{eqb, lit≤}
 use lib.ListN.{length, getD}
 use lib.Seq.{length-take-le}
 use lib.Ieee.{Float, nan}
-use Rattle.base.specs.Words.{Words, Edges, edges, withEdges, count, wordsInPlaces}
+use Rattle.base.specs.Words.{Words, Spans, Edges, edges, withEdges, count, wordsInPlaces}
 use Rattle.base.specs.Parts.{OneLength}
-use Rattle.calls.proofs.Within.{AllFrom, WordsWithin}
+use Rattle.calls.proofs.Within.{AllFrom, WordsWithin, SpansWithin}
 use Rattle.levels.specs.Levels.{levels}
 use Rattle.levels.proofs.Places.{length-levels}
 use Rattle.floors.specs.Floors.{floor}
-use Rattle.envelope.specs.Levels.{loudRow}
+use Rattle.envelope.specs.Levels.{loudRow, quietRow}
 use Rattle.passes.specs.Loops.{collapseLoops}
 use Rattle.loops.proofs.Kept.{left-within}
 use Rattle.phrases.specs.PhraseAlign.{Placing, alignPhrases}
@@ -41,44 +41,40 @@ use Rattle.bounds.proofs.Small.{edges-small, within-under, places-small
 abbrev settling : ℕ
 settling = 501761 * 2 ^ 34
 
-module _ (i : Input) (w : RunWithin i) where
-  abbrev ls : List Float
-  ls = levels (i .samples)
-
+-- ---- On any levels, as many as samples / 160, and any floor.
+module _ (ls : List Float) (f : Float) (samples : ℕ) (ws : Words) (sp : Spans) (phrases : List ℕ) (ww : WordsWithin ws) (sw : SpansWithin sp) (most : samples ≤ 57600000)
+    (own : length ls ≡ samples / 160) where
   abbrev row : List Bool
-  row = loudRow (floor ls) ls
-
-  abbrev samples : ℕ
-  samples = length (i .samples)
+  row = loudRow f ls
 
   abbrev duration : Float
   duration = durationOf samples
 
   abbrev left : Words
-  left = collapseLoops (i .words) .words
+  left = collapseLoops ws .words
 
   abbrev es : Edges
-  es = inRow left ls (floor ls) samples duration
+  es = inRow left ls f samples duration
 
   abbrev after : Words
   after = withEdges es left
 
   left-in : WordsWithin left
-  left-in = left-within (i .words) (w .words-within)
+  left-in = left-within ws (ww)
 
   heard : (samples ≤ 57600000) × (length ls ≡ samples / 160)
-  heard = (w .few-samples, length-levels (i .samples))
+  heard = (most, own)
 
   short : length row ≤ 360000
-  short = hour-long ls (floor ls) samples heard
+  short = hour-long ls f samples heard
 
   -- ---- after loops, tails, onsets and ends
   es-long : (length (es .starts) ≡ length (left .starts)) × (length (es .ends) ≡ length (left .starts))
-  es-long = stages-long left ls (floor ls) samples duration (left-in, heard)
+  es-long = stages-long left ls f samples duration (left-in, heard)
 
   timed : Timed (length (left .letters)) settling es
   timed =
-      let u = stages-under left ls (floor ls) samples duration (left-in, heard) (under-more 64 230400 460800 duration (lit≤ tt) (lasts-under samples (w .few-samples))) in
+      let u = stages-under left ls f samples duration (left-in, heard) (under-more 64 230400 460800 duration (lit≤ tt) (lasts-under samples (most))) in
       record {
         starts-long = es-long .0 ∙ sym (left-in .letters-as-long);
         ends-long = es-long .1 ∙ sym (left-in .letters-as-long);
@@ -92,10 +88,10 @@ module _ (i : Input) (w : RunWithin i) where
   few = omega (arith, left-in .few, left-in .letters-as-long)
 
   lasts : (b : ℕ) → 7200 * steps ≤ b → UnderIn steps b duration
-  lasts b l = under-more steps (7200 * steps) b duration l (hour-lasts samples (w .few-samples))
+  lasts b l = under-more steps (7200 * steps) b duration l (hour-lasts samples (most))
 
   -- ---- without spans
-  one-small : SmallTimes (asOne row duration (i .phrases) after .words)
+  one-small : SmallTimes (asOne row duration phrases after .words)
   unfolding asOne
   one-small =
       edges-small steps (settling + slowest + drift * length (left .letters)) (fitToSound row duration (left .letters) es) after (omega (arith, few))
@@ -103,7 +99,7 @@ module _ (i : Input) (w : RunWithin i) where
 
   -- ---- with spans: the words placed are the first of them, and a span's edges are within 7,200 s
   abbrev placed : Placing
-  placed = alignPhrases after (i .spans)
+  placed = alignPhrases after sp
 
   abbrev all : Words
   all = placed .words
@@ -113,8 +109,8 @@ module _ (i : Input) (w : RunWithin i) where
       let k = left-in .keys-as-long in
       (es-long .0 ∙ sym k, (es-long .1 ∙ sym k, (left-in .letters-as-long ∙ sym k, (left-in .units-as-long ∙ sym k, refl))))
 
-  facts : After after even (i .spans) (w .spans-within .counts-as-long) (length (i .spans .starts)) placed
-  facts = placed-after after even (i .spans) (w .spans-within .counts-as-long)
+  facts : After after even sp (sw .counts-as-long) (length (sp .starts)) placed
+  facts = placed-after after even sp (sw .counts-as-long)
 
   new : ℕ
   new = min (placed .k) (count after)
@@ -133,46 +129,54 @@ module _ (i : Input) (w : RunWithin i) where
   placed-few : length (all .letters) ≤ 4096
   placed-few = omega (arith, letters-long, new-few, few)
 
-  span-start : (p : ℕ) → p < length (i .spans .starts) → UnderIn steps settling (getD (i .spans .starts) p nan)
-  span-start p l = under-more steps (7200 * steps) settling (getD (i .spans .starts) p nan) (lit≤ tt) (within-under steps (getD (i .spans .starts) p nan) (w .spans-within .starts-within p l))
+  span-start : (p : ℕ) → p < length (sp .starts) → UnderIn steps settling (getD (sp .starts) p nan)
+  span-start p l = under-more steps (7200 * steps) settling (getD (sp .starts) p nan) (lit≤ tt) (within-under steps (getD (sp .starts) p nan) (sw .starts-within p l))
 
-  span-end : (p : ℕ) → p < length (i .spans .ends) → UnderIn steps settling (getD (i .spans .ends) p nan)
-  span-end p l = under-more steps (7200 * steps) settling (getD (i .spans .ends) p nan) (lit≤ tt) (within-under steps (getD (i .spans .ends) p nan) (w .spans-within .ends-within p l))
+  span-end : (p : ℕ) → p < length (sp .ends) → UnderIn steps settling (getD (sp .ends) p nan)
+  span-end p l = under-more steps (7200 * steps) settling (getD (sp .ends) p nan) (lit≤ tt) (within-under steps (getD (sp .ends) p nan) (sw .ends-within p l))
 
   placed-timed : Timed (length (all .letters)) (settling + stray) (edges (all .starts) (all .ends))
   unfolding new
   placed-timed = record {
     starts-long = facts .starts-long ∙ sym letters-long;
     ends-long = facts .ends-long ∙ sym letters-long;
-    small = align-under after (i .spans) settling (lit≤ tt) (left-in .letters-from-1) few timed (w .spans-within .ends-as-long) span-start span-end;
+    small = align-under after sp settling (lit≤ tt) (left-in .letters-from-1) few timed (sw .ends-as-long) span-start span-end;
   }
 
   more : (x : Float) → UnderIn steps settling x → UnderIn steps (settling + stray) x
   more x u = under-more steps settling (settling + stray) x (omega arith) u
 
-  phrases-small : SmallTimes (byPhrase row duration (i .spans) (i .phrases) after .words)
+  phrases-small : SmallTimes (byPhrase row duration sp phrases after .words)
   unfolding byPhrase
   phrases-small =
       edges-small steps (settling + stray + slowest + haul * length (all .letters) + shortest)
-      (fitFile row duration (all .letters) (placed .phrases) (edges (i .spans .starts) (i .spans .ends)) (edges (all .starts) (all .ends))) all (omega (arith, placed-few))
-      (file-under (all .letters) letters-in placed-few row short duration (placed .phrases) (edges (i .spans .starts) (i .spans .ends)) (settling + stray) (lit≤ tt) (omega (arith, placed-few)) (more duration (lasts settling (lit≤ tt)))
-      (λ p l. (more (getD (i .spans .starts) p nan) (span-start p l), more (getD (i .spans .ends) p nan) (span-end p (omega (arith, l, w .spans-within .ends-as-long)))))
+      (fitFile row duration (all .letters) (placed .phrases) (edges (sp .starts) (sp .ends)) (edges (all .starts) (all .ends))) all (omega (arith, placed-few))
+      (file-under (all .letters) letters-in placed-few row short duration (placed .phrases) (edges (sp .starts) (sp .ends)) (settling + stray) (lit≤ tt) (omega (arith, placed-few)) (more duration (lasts settling (lit≤ tt)))
+      (λ p l. (more (getD (sp .starts) p nan) (span-start p l), more (getD (sp .ends) p nan) (span-end p (omega (arith, l, sw .ends-as-long)))))
       (edges (all .starts) (all .ends)) placed-timed .small)
 
   -- ---- the final words
-  run-small : SmallTimes (runOf i .words)
-  unfolding runOf runOn settled snapped
-  run-small = go (eqb (length (i .spans .starts)) 0)
+  pub run-small : SmallTimes (runOn row (quietRow f ls) samples sp phrases ws .words)
+  unfolding runOn settled snapped
+  run-small = go (eqb (length (sp .starts)) 0)
     where
-      go : (t : Bool) → SmallTimes (cond t (asOne row duration (i .phrases) after) (byPhrase row duration (i .spans) (i .phrases) after) .words)
+      go : (t : Bool) → SmallTimes (cond t (asOne row duration phrases after) (byPhrase row duration sp phrases after) .words)
       go true = one-small
       go false = phrases-small
+
+module _ (i : Input) (w : RunWithin i) where
+  abbrev ls : List Float
+  ls = levels (i .samples)
+
+  small : SmallTimes (runOf i .words)
+  unfolding runOf
+  small = run-small ls (floor ls) (length (i .samples)) (i .words) (i .spans) (i .phrases) (w .words-within) (w .spans-within) (w .few-samples) (length-levels (i .samples))
 
   -- ---- Every time that an accepted full run leaves, also in the places past the final words, is finite and below 2^13.
   pub full-run-small : SmallTimes (fullRun i .words)
   unfolding wordsInPlaces
   full-run-small =
       subst SmallTimes (sym (ap (λ (o : Output). o .words) (accepted-exactly i .0 w))) (record {
-        starts = places-small (count (i .words)) (runOf i .words .starts) (run-small .starts);
-        ends = places-small (count (i .words)) (runOf i .words .ends) (run-small .ends);
+        starts = places-small (count (i .words)) (runOf i .words .starts) (small .starts);
+        ends = places-small (count (i .words)) (runOf i .words .ends) (small .ends);
       })

@@ -14,7 +14,7 @@ use Rattle.cuts.specs.Pieces.{Best, none, some, Search, longer, counted,
 use Rattle.cuts.specs.Parts.{partSearch, middle}
 use Rattle.base.proofs.Loops.{each-holds, each-alike}
 
-counted-le : (b : Bool) (run k : ℕ) → run ≤ k → counted b run ≤ suc k
+pub counted-le : (b : Bool) (run k : ℕ) → run ≤ k → counted b run ≤ suc k
 counted-le true run k h = omega arith
 counted-le false run k h = omega arith
 

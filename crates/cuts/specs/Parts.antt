@@ -1,12 +1,13 @@
 -- What only the contracts of the unchecked core cite; a reader of the public call may skip it. Assumes nothing.
-use Prim.Native.Nat.{ℕ, _+_, _≤_}
+use Prim.Native.Nat.{ℕ, _-_, _≤_, _<_}
 use mathlib.Core.Path.{_≡_}
-use mathlib.Core.Bool.{Bool, cond}
+use mathlib.Core.Bool.{Bool, false, cond, _&&_}
 use mathlib.Core.List.{List}
-use lib.Dec.{eqb}
-use Rattle.base.specs.Loop.{each}
+use lib.Dec.{ltb}
+use lib.ListN.{getD}
+use Rattle.base.specs.Loop.{each, up, down}
 use Rattle.cuts.specs.declared.Quiet.{Quiet}
-use Rattle.cuts.specs.Pieces.{Search, none, some, searchTurn, searchFrames, atBest}
+use Rattle.cuts.specs.Pieces.{Best, Search, none, some, searchTurn, searchFrames, minQuiet, atBest}
 
 -- ---- The search, with places counted from the first frame that it looks at: the row is that part alone.
 unfoldable pub partSearch : List Bool → Search
@@ -16,11 +17,22 @@ partSearch part = each (searchTurn part) searchFrames 0 (record { best = none; r
 unfoldable pub middle : List Bool → ℕ
 middle part = atBest searchFrames (partSearch part .best)
 
--- ---- The search's state, from the code's, where a longest run of 0 is none.
-unfoldable pub seen : Quiet → Search
-seen q = record { best = cond (eqb (q .longest) 0) none (some (q .longest) (q .middle)); run = q .run }
+-- ---- Where the quiet frames before frame `to` start, at `from` at the earliest.
+unfoldable pub quietStart : List Bool → ℕ → ℕ → ℕ
+quietStart part from to = down (λ (k : ℕ). ltb from k && getD part (k - 1) false) to
 
--- ---- A turn of the search at place k takes the code's state q to r.
-pub record Stepped (part : List Bool) (k : ℕ) (q r : Quiet) : Type 0 where
-  pub turn : seen r ≡ searchTurn part k (seen q)
-  pub short : r .run ≤ q .run + 1
+-- ---- Where the quiet frames from frame `from` on end.
+unfoldable pub quietEnd : List Bool → ℕ → ℕ
+quietEnd part from = up (λ (k : ℕ). getD part k false) (searchFrames - from) from
+
+-- ---- The search's best, from the code's, where a longest run too short to hold a cut is none.
+unfoldable pub shown : Quiet → Best
+shown q = cond (ltb (q .longest) minQuiet) none (some (q .longest) (q .middle))
+
+-- ---- The search has no run at `start`: what is left of it, from there and from the code's best, finds what the whole finds.
+pub record Stands (part : List Bool) (q : Quiet) : Type 0 where
+  pub start : q .start ≤ 801
+  pub least : 7 ≤ q .longest
+  pub most : q .longest ≤ 800
+  pub nowhere : q .longest < 8 → q .middle ≡ 800
+  pub rest : partSearch part .best ≡ each (searchTurn part) (searchFrames - q .start) (q .start) (record { best = shown q; run = 0 }) .best

@@ -1,13 +1,11 @@
 // Where a piece of a recording is cut: in the middle of its longest quiet (pieces.rs).
 ghost use mathlib.Core.Path.{_≡_};
-ghost use mathlib.Core.Bool.{_&&_};
 ghost use Prim.Native.Nat.{_+_, _≤_, _<_};
-ghost use lib.Dec.{leb, ltb};
 ghost use lib.Ieee.{le};
 ghost use lib.ListN.{length};
 ghost use Rattle.envelope.specs.Levels.{quietRow};
-ghost use Rattle.cuts.specs.Pieces.{counted, cut};
-ghost use Rattle.cuts.specs.Parts.{Stepped, middle};
+ghost use Rattle.cuts.specs.Pieces.{cut};
+ghost use Rattle.cuts.specs.Parts.{middle, quietStart, quietEnd, Stands};
 
 // The most frames in one piece: 20 s.
 const MAX_FRAMES: usize = 2000;
@@ -16,9 +14,9 @@ const SEARCH_FRAMES: usize = 800;
 // A silence this many frames long or longer can hold a cut: 80 ms.
 const MIN_QUIET: usize = 8;
 
-// A search for a cut: the quiet run so far, the longest that can hold a cut (0: none), and the place in its middle.
+// A search for a cut: where it goes on, the longest quiet run so far (one short of the least that can hold a cut: none), and the place in its middle.
 struct Quiet {
-    run: usize,
+    start: usize,
     longest: usize,
     middle: usize,
 }
@@ -30,45 +28,57 @@ fn is_quiet(level: f64, floor: f64) -> bool
     level <= floor
 }
 
-// The quiet run, with one frame more.
-fn next_run(quiet: bool, run: usize) -> usize
-    requires { ⌜ run < 800 ⌝ }
-    ensures { λ r. ⌜ (r ≡ counted quiet run) × (r ≤ run + 1) ⌝ }
+// Where the quiet frames before `to` start, at `from` at the earliest.
+fn quiet_from(part: &[f64], floor: f64, from: usize, to: usize) -> usize
+    requires { ⌜ (length (now part) ≡ 800) × ((from ≤ to) × (to ≤ 800)) ⌝ }
+    ensures { λ r. ⌜ (r ≡ quietStart (quietRow floor (now (part .entry))) from to) × ((from ≤ r) × (r ≤ to)) ⌝ }
 {
-    if quiet {
-        return run + 1;
+    let mut k = to;
+    while from < k {
+        if !is_quiet(part[k - 1], floor) {
+            return k;
+        }
+        k -= 1;
     }
-    0
+    k
 }
 
-// A run that can hold a cut, and is longer than every run before it.
-fn is_longer(run: usize, longest: usize) -> bool
-    ensures { λ r. ⌜ r ≡ (leb 8 run && ltb longest run) ⌝ }
+// Where the quiet frames from `from` on end.
+fn quiet_to(part: &[f64], floor: f64, from: usize) -> usize
+    requires { ⌜ (length (now part) ≡ 800) × (from ≤ 800) ⌝ }
+    ensures { λ r. ⌜ (r ≡ quietEnd (quietRow floor (now (part .entry))) from) × ((from ≤ r) × (r ≤ 800)) ⌝ }
 {
-    if run < MIN_QUIET {
-        return false;
+    let mut k = from;
+    while k < SEARCH_FRAMES {
+        if !is_quiet(part[k], floor) {
+            return k;
+        }
+        k += 1;
     }
-    run > longest
+    k
 }
 
-// The search, at one frame more.
-fn search_frame(part: &[f64], floor: f64, k: usize, q: Quiet) -> Quiet
-    requires { ⌜ (length (now part) ≡ 800) × ((k < 800) × (q .run ≤ k)) ⌝ }
-    ensures { λ r. ⌜ Stepped (quietRow floor (now (part .entry))) k q r ⌝ }
+// The search, one step on: it looks at one frame more than the longest run has, the last of them first; it goes on behind the first that is not quiet, or, where all are quiet, behind the end of their run.
+fn search_run(part: &[f64], floor: f64, q: Quiet) -> Quiet
+    requires { ⌜ (length (now part) ≡ 800) × ((q .start + q .longest < 800) × Stands (quietRow floor (now part)) q) ⌝ }
+    ensures { λ r. ⌜ Stands (quietRow floor (now (part .entry))) r × (q .start < r .start) ⌝ }
 {
-    let quiet = is_quiet(part[k], floor);
-    let run = next_run(quiet, q.run);
-    if is_longer(run, q.longest) {
+    let start = q.start;
+    let to = start + q.longest + 1;
+    let from = quiet_from(part, floor, start, to);
+    if start < from {
         return Quiet {
-            run,
-            longest: run,
-            middle: k - run / 2,
+            start: from,
+            longest: q.longest,
+            middle: q.middle,
         };
     }
+    let end = quiet_to(part, floor, to);
+    let longest = end - start;
     Quiet {
-        run,
-        longest: q.longest,
-        middle: q.middle,
+        start: end + 1,
+        longest,
+        middle: end - 1 - longest / 2,
     }
 }
 
@@ -78,17 +88,12 @@ fn find_middle(part: &[f64], floor: f64) -> usize
     ensures { λ r. ⌜ (r ≡ middle (quietRow floor (now (part .entry)))) × (r ≤ 800) ⌝ }
 {
     let mut q = Quiet {
-        run: 0,
-        longest: 0,
-        middle: 0,
+        start: 0,
+        longest: MIN_QUIET - 1,
+        middle: SEARCH_FRAMES,
     };
-    let mut k = 0;
-    while k < part.len() {
-        q = search_frame(part, floor, k, q);
-        k += 1;
-    }
-    if q.longest == 0 {
-        return SEARCH_FRAMES;
+    while q.start + q.longest < SEARCH_FRAMES {
+        q = search_run(part, floor, q);
     }
     q.middle
 }

@@ -1,3 +1,3 @@
 -- The full run: its promises in plain words, and what the code makes.
 pub mod Promises
-mod Made
+pub mod Made

@@ -39,7 +39,7 @@ own-levels : (samples : ℕ) (ws : Words) → withLevels (samples / hop) samples
 unfolding withLevels withSamples ofWords
 own-levels samples ws = rw (eq-eqb (samples / hop) (samples / hop) refl)
 
-applies-are : (samples : List Float) (ws : Words) (spans : Spans) (phrases : List ℕ) (ls : List Float) (s e : List ℕ) (work : ℕ)
+pub applies-are : (samples : List Float) (ws : Words) (spans : Spans) (phrases : List ℕ) (ls : List Float) (s e : List ℕ) (work : ℕ)
     → appliesTo (length samples) ws spans (length phrases) (length ls) (min (length s) (length e)) work ≡ runApplies (input samples ws spans phrases ls s e work)
 unfolding appliesTo runApplies
 applies-are samples ws spans phrases ls s e work = rw (own-levels (length samples) ws)

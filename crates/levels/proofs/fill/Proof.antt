@@ -1,93 +1,23 @@
--- `levels::fill` meets its contract: what is left of the stores, from where the loop stands, gives the whole. Assumes nothing.
-use native.Mathlib.Omega.{arith}
-use Prim.Native.Nat.{_≤_, _-_}
-use mathlib.Core.Path.{_≡_, refl, sym, ap, _∙_}
-use lib.ListN.{length, set, length-set}
+-- `levels::fill` meets its contract: the frames in fours and then the rest are all the frames. Assumes nothing.
+use mathlib.Core.Path.{sym, _∙_}
 use borrow.Author.Needs.{needs}
-use Rattle.base.specs.Loop.{each}
-use Rattle.base.proofs.Loops.{each-next, each-done, each-start}
-use Rattle.levels.specs.Levels.{level}
-use Rattle.levels.proofs.Places.{stored, stores, part-frame}
+use Rattle.levels.proofs.Places.{stores}
 use Rattle.levels.proofs.fill.Statement.{statement}
 use Rattle.levels.proofs.fill.Tie as tie
 
-abbrev Inv-loop : tie.InvT-loop
-Inv-loop samples levels₀ n k₀ levels k = (k ≤ n) × ((length levels ≡ length levels₀) × (each (stored samples) n 0 levels₀ ≡ each (stored samples) (n - k) k levels))
+fill-fours-requires : tie.Need-fill-fours-requires
+fill-fours-requires c κs = search needs
 
-abbrev μ-loop : tie.MeasureT-loop
-μ-loop samples levels₀ n k₀ levels k = n - k
+fill-rest-requires : tie.Need-fill-rest-requires
+fill-rest-requires c κs = search needs
 
-loop-holds : tie.Need-loop-holds Inv-loop μ-loop
-loop-holds c = (search needs, (refl, each-start _ _ _))
+same-length : tie.Need-same-length
+same-length c = search needs
 
-mul-from : tie.Need-mul-from Inv-loop μ-loop
-mul-from c = omega arith
-
-add-to : tie.Need-add-to Inv-loop μ-loop
-add-to c = omega arith
-
-mul-level : tie.Need-mul-level Inv-loop μ-loop
-mul-level c = omega arith
-
-sub-level : tie.Need-sub-level Inv-loop μ-loop
-sub-level c = omega arith
-
-part-level-start : tie.Need-part-level-start Inv-loop μ-loop
-part-level-start c = omega arith
-
-part-level-end : tie.Need-part-level-end Inv-loop μ-loop
-part-level-end c = omega arith
-
-level-requires : tie.Need-level-requires Inv-loop μ-loop
-level-requires c κs = omega arith
-
-mul-levels : tie.Need-mul-levels Inv-loop μ-loop
-mul-levels c = omega arith
-
-slice-write-levels : tie.Need-slice-write-levels Inv-loop μ-loop
-slice-write-levels c = omega arith
-
-add-k : tie.Need-add-k Inv-loop μ-loop
-add-k c = omega arith
-
-loop-less : tie.Need-loop-less Inv-loop μ-loop
-loop-less c = omega arith
-
-loop-again : tie.Need-loop-again Inv-loop μ-loop
-loop-again c =
-    let at = c .before .before .before in
-    let h = at .loop .inv in (
-      search needs,
-      (
-        simp length-set (h .1 .0),
-        h .1 .1 ∙ each-next _ _ _ (c .before .before .loop-test .taken) (ap (set (at .loop .levels) (at .loop .k)) (c .level .ensures ∙ ap level (part-frame _ _))),
-      ),
-    )
-
-same-length : tie.Need-same-length Inv-loop μ-loop
-same-length c = c .before .loop .inv .1 .0
-
-returns : tie.Need-returns Inv-loop μ-loop
-returns c = sym (c .before .loop .inv .1 .1 ∙ each-done _ _ _ _ (c .loop-test .left)) ∙ stores _ _ (c .before .before .before .before .pre .1)
+returns : tie.Need-returns
+returns c =
+    c .before .before .fill-rest .ensures ∙ sym (c .before .before .before .before .before .before .fill-fours .ensures .1)
+    ∙ stores _ _ (c .before .before .before .before .before .before .before .before .before .before .pre .1)
 
 pub fill-spec : {M : Type 1} → statement M
-fill-spec =
-    tie.close
-    (tie.spec
-    Inv-loop
-    μ-loop
-    loop-holds
-    mul-from
-    add-to
-    mul-level
-    sub-level
-    part-level-start
-    part-level-end
-    level-requires
-    mul-levels
-    slice-write-levels
-    add-k
-    loop-less
-    loop-again
-    same-length
-    returns)
+fill-spec = tie.close (tie.spec fill-fours-requires fill-rest-requires same-length returns)

@@ -7,12 +7,12 @@ use Rattle.levels.proofs.level.Tie as tie
 squares-requires : tie.Need-squares-requires
 squares-requires c κs = omega arith
 
-sqrt-requires : tie.Need-sqrt-requires
-sqrt-requires c κs = omega arith
+root-mean-requires : tie.Need-root-mean-requires
+root-mean-requires c κs = omega arith
 
 returns : tie.Need-returns
 unfolding level
 returns c = cc
 
 pub level-spec : {M : Type 1} → statement M
-level-spec = tie.close (tie.spec squares-requires sqrt-requires returns)
+level-spec = tie.close (tie.spec squares-requires root-mean-requires returns)

@@ -1,0 +1,4 @@
+// A stored run of `fitlist`: more words than a job may have.
+fn main() {
+    job_input::run();
+}

@@ -1,0 +1,4 @@
+// A stored run of `fitlist`: a gap between the bodies.
+fn main() {
+    job_input::run();
+}

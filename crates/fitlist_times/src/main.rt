@@ -1,0 +1,4 @@
+// A stored run of `fitlist`: a time that is a NaN.
+fn main() {
+    job_input::run();
+}

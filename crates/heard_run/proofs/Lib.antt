@@ -1,0 +1,2 @@
+-- Laws of a full run on levels that were heard before.
+pub mod Runs

@@ -1,0 +1,2 @@
+-- A full run on levels that were heard before.
+pub mod Parts

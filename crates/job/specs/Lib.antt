@@ -1,0 +1,3 @@
+-- What the program prints for a job file.
+pub mod Printed
+pub mod Parts

@@ -1,0 +1,3 @@
+-- A job read from standard input.
+pub mod Answers
+pub mod Parts

@@ -1,0 +1,3 @@
+-- Laws of the writers.
+pub mod Writing
+mod Cases
