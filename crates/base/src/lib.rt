@@ -85,8 +85,12 @@ pub fn clear(
     keys: &mut [u32],
     count: usize,
 )
-    requires { ⌜ (OneLength (length (now keys)) (words (now starts) (now ends) (now letters) (now units) (now keys))) × (count ≤ length (now keys)) ⌝ }
-    ensures { λ _. ⌜ words (now (starts .exit)) (now (ends .exit)) (now (letters .exit)) (now (units .exit)) (now (keys .exit)) ≡ wordsInPlaces (length (now (keys .entry))) (firstWords count (words (now (starts .entry)) (now (ends .entry)) (now (letters .entry)) (now (units .entry)) (now (keys .entry)))) ⌝ }
+    requires { ⌜ (OneLength (length (now keys)) (words (now starts) (now ends) (now letters) (now units) (now keys)))
+        × (count ≤ length (now keys)) ⌝ }
+    ensures { λ _.
+        let before = words (now (starts .entry)) (now (ends .entry)) (now (letters .entry)) (now (units .entry)) (now (keys .entry)) in
+        let after = words (now (starts .exit)) (now (ends .exit)) (now (letters .exit)) (now (units .exit)) (now (keys .exit)) in
+        ⌜ after ≡ wordsInPlaces (length (now (keys .entry))) (firstWords count before) ⌝ }
 {
     let mut i = count;
     while i < keys.len() {

@@ -29,12 +29,10 @@ use Rattle.base.proofs.Values.{whole-int, add-whole, div-whole}
 use Rattle.js.specs.Js.{jsMin, jsMax, nearestUp, jsToFixed}
 use Rattle.js.proofs.ToFixed.{nearestUp-bounds}
 use Rattle.frames.specs.Frames.{frameAt, frameSeconds}
-use Rattle.envelope.specs.Levels.{loud}
-use Rattle.calls.proofs.Within.{AllFrom}
-use Rattle.sounds.specs.Ends.{Last, lastTurn, lastLoud, soundEnd}
-use Rattle.word_end.specs.Ends.{noLength, pairSpan, nextStart, isPair, findTurn, pairStart, pairEdge, pairOf, reach, orDuration, trimmed, endOf}
-use Rattle.ends.specs.Ends.{endTurn, snapEnds, setPair}
-use Rattle.word_end.proofs.OneWord.{pair-in}
+use Rattle.envelope.specs.Envelope.{loud}
+use Rattle.word_calls.proofs.Within.{AllFrom}
+use Rattle.ends.specs.Ends.{Last, lastTurn, lastLoud, soundEnd, noLength, pairSpan, nextStart, isPair, findTurn, pairStart, pairEdge, pairOf, reach, orDuration, trimmed, endOf, endTurn, snapEnds, setPair}
+use Rattle.ends.proofs.OneWord.{pair-in}
 use Rattle.bounds.specs.Bounds.{Under, EdgesUnder}
 use Rattle.bounds.proofs.Rounding.{under-more, round-under, add-under, max-under, min-under}
 use Rattle.bounds.proofs.Seconds.{hour-under}

@@ -18,14 +18,13 @@ use Rattle.base.proofs.Loops.{each-holds, down-le, up-ge, up-le}
 use Rattle.base.proofs.Parts.{long, onPart-long}
 use Rattle.base.proofs.Values.{fraction, whole-int, mul-fraction}
 use Rattle.js.specs.Js.{under, jsMin, jsMax}
-use Rattle.calls.proofs.Within.{AllFrom}
+use Rattle.word_calls.proofs.Within.{AllFrom}
 use Rattle.share.specs.Share as shares
 use Rattle.share.proofs.Sums.{sum-between}
 use Rattle.share.proofs.Long.{share-long}
 use Rattle.share.proofs.Steps.{farthest}
-use Rattle.stretches.specs.Even.{slowLetter, slowWord, sum, crushed, swollen, firstCrushed, withSwollen, lastCrushed, grows, grown, ceilingOf, borrows, borrowed, endOf, stretchOf}
-use Rattle.even.specs.Even.{evenRun, Evening, evenTurn, evenOut}
-use Rattle.stretches.specs.declared.Stretch.{Stretch}
+use Rattle.even.specs.Even.{slowLetter, slowWord, sum, crushed, swollen, firstCrushed, withSwollen, lastCrushed, grows, grown, ceilingOf, borrows, borrowed, endOf, stretchOf, evenRun, Evening, evenTurn, evenOut}
+use Rattle.even.specs.declared.stretch.Stretch.{Stretch}
 use Rattle.bounds.specs.Bounds.{UnderIn}
 use Rattle.bounds.proofs.Rounding.{under-more, under-coarser, under-number, round-under, add-under}
 use Rattle.bounds.proofs.Parted.{each-part, part-same, part-few, onPart-under, edges-more}

@@ -27,15 +27,12 @@ use Rattle.base.proofs.Loops.{Holds, run-holds, each-holds, ltZ-nat, sub-nat}
 use Rattle.base.proofs.Most.{Most}
 use Rattle.js.specs.Js.{jsMin, jsMax}
 use Rattle.frames.specs.Frames.{frameAt, frameFromZero, frameSeconds}
-use Rattle.envelope.specs.Levels.{loud}
-use Rattle.calls.proofs.Within.{AllFrom}
+use Rattle.envelope.specs.Envelope.{loud}
+use Rattle.word_calls.proofs.Within.{AllFrom}
 use Rattle.share.proofs.Steps.{farthest}
-use Rattle.sounds.specs.Ends.{lastLoud, soundEnd}
-use Rattle.word_end.specs.Ends.{nextStart, orDuration}
+use Rattle.ends.specs.Ends.{lastLoud, soundEnd, nextStart, orDuration}
 use Rattle.even.specs.Even.{evenOut}
-use Rattle.fit_starts.specs.Fit.{minStep, searchAhead, maxKeep, loudRun, stepStart, inOrder, orderTurn, putInOrder, isLoudRun, stopBefore, stopAt, riseTurn, riseFrame, movedTo, riseOf, riseTurnOf, moveToRise, clipped, clipTurn, clip}
-use Rattle.fit_ends.specs.Fit.{maxNeed, letterTime, soundEndIn, quietRun, cutBack, lastsTo, endedBy, endOf, endTurn, settleEnds}
-use Rattle.fit_to_sound.specs.Fit.{fitToSound}
+use Rattle.fit_to_sound.specs.FitToSound.{minStep, searchAhead, maxKeep, loudRun, stepStart, inOrder, orderTurn, putInOrder, isLoudRun, stopBefore, stopAt, riseTurn, riseFrame, movedTo, riseOf, riseTurnOf, moveToRise, clipped, clipTurn, clip, maxNeed, letterTime, soundEndIn, quietRun, cutBack, lastsTo, endedBy, endOf, endTurn, settleEnds, fitToSound}
 use Rattle.bounds.specs.Bounds.{UnderIn}
 use Rattle.bounds.proofs.Rounding.{under-more, under-finer, under-number, round-signed, round-under, add-under, max-under, min-under}
 use Rattle.bounds.proofs.Seconds.{hour-under}

@@ -12,11 +12,9 @@ use lib.ListN.{length, getD}
 use lib.Ieee.{Float, nan, inf, fin, binary64, isNan, fits, ofBits, ofFields, toBits}
 use lib.Ieee.Bits.{ofBits-toBits, toBits-lt, toBits-ofBits}
 use Rattle.base.specs.Words.{Words, Spans, edges}
-use Rattle.checks.specs.declared.Answer.the-variants.{Accepted}
-use Rattle.levels.specs.Levels.{levels}
-use Rattle.floors.specs.Floors.{floor}
-use Rattle.envelope.specs.Levels.{loudRow}
-use Rattle.fit_file.specs.Calls.{durationOf, fitFileCall}
+use Rattle.limits.specs.declared.Answer.the-variants.{Accepted}
+use Rattle.envelope.specs.Envelope.{levels, floor, loudRow}
+use Rattle.fit_file.specs.FitFile.{durationOf, fitFileCall}
 use Rattle.fit_file.proofs.Calls as file
 use Rattle.full_run.specs.FullRun.{Input, fullRun}
 use Rattle.full_run.specs.declared.Report.{Report}

@@ -17,7 +17,7 @@ use Rattle.base.specs.declared.Times.{Times}
 use Rattle.base.proofs.Loops.{Holds, back-holds, each-keeps, each-holds}
 use Rattle.js.specs.Js.{jsMin}
 use Rattle.frames.specs.Frames.{frameAt, frameCeil, frameSeconds}
-use Rattle.envelope.specs.Levels.{loud}
+use Rattle.envelope.specs.Envelope.{loud}
 use Rattle.onsets.proofs.Starts.{end-stays}
 use Rattle.onsets.specs.Onsets.{maxBack, pause, Onset, backTurn, onsetFrame, onsetOf, prevEnd, onsetTurn, snapOnsets}
 use Rattle.bounds.specs.Bounds.{Under, EdgesUnder}

@@ -23,8 +23,8 @@ use Rattle.base.proofs.Loops.{Holds, back-holds, each-keeps, each-holds}
 use Rattle.base.proofs.Parts.{long, both}
 use Rattle.js.specs.Js.{jsMin, jsMax}
 use Rattle.frames.specs.Frames.{frameFromZero}
-use Rattle.envelope.specs.Levels.{loud}
-use Rattle.calls.proofs.Within.{AllFrom}
+use Rattle.envelope.specs.Envelope.{loud}
+use Rattle.word_calls.proofs.Within.{AllFrom}
 use Rattle.share.proofs.Steps.{farthest}
 use Rattle.even.specs.Even.{evenOut}
 use Rattle.last_run.specs.LastRun as runs
@@ -32,12 +32,10 @@ use Rattle.last_run.specs.LastRun.{minRun, backTurn, endsBetween, framesOf, fra
 use Rattle.last_run.specs.declared.FrameRun.the-variants.{Frames, NoFrames}
 use Rattle.last_run.specs.declared.Run.{Run}
 use Rattle.last_run.specs.declared.Run.the-variants.{Sound, Nothing}
-use Rattle.fit_to_sound.specs.Fit.{fitToSound}
-use Rattle.fit_group.specs.FitGroup.{minWord, trailingGap, insideSpan, insideTurn, keepInside, makeWay, takeSound, takeRun, takeTrailing, fitGroup}
-use Rattle.groups.specs.Groups.{memberTurn, membersOf, picked, pickedEdges, putEdges}
-use Rattle.groups.proofs.Members.{turn-hit, turn-miss, members-next}
-use Rattle.groups.proofs.Local.{AllOf, In, members-all, member-in, put-long, picked-at, picked-long}
-use Rattle.fit_phrases.specs.FitPhrases.{fitPhrase, fitFile}
+use Rattle.fit_to_sound.specs.FitToSound.{fitToSound}
+use Rattle.fit_file.specs.FitFile.{minWord, trailingGap, insideSpan, insideTurn, keepInside, makeWay, takeSound, takeRun, takeTrailing, fitGroup, memberTurn, membersOf, picked, pickedEdges, putEdges, fitPhrase, fitFile}
+use Rattle.fit_file.proofs.Members.{turn-hit, turn-miss, members-next}
+use Rattle.fit_file.proofs.Local.{AllOf, In, members-all, member-in, put-long, picked-at, picked-long}
 use Rattle.invariance.proofs.Alone.{fitAlone, phrase-alone, spanless-stays}
 use Rattle.bounds.specs.Bounds.{UnderIn}
 use Rattle.bounds.proofs.Rounding.{under-more, add-under, max-under, min-under}

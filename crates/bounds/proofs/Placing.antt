@@ -18,12 +18,10 @@ use Rattle.base.specs.declared.Times.{Times}
 use Rattle.base.proofs.Loops.{each-holds, each-done, down-le, down-seen, up-le, up-found}
 use Rattle.base.proofs.Parts.{long, onPart-after}
 use Rattle.js.specs.Js.{jsMax}
-use Rattle.calls.proofs.Within.{AllFrom}
+use Rattle.word_calls.proofs.Within.{AllFrom}
 use Rattle.share.proofs.Steps.{farthest}
-use Rattle.inside.specs.Spread.{inside, outsideAt, firstInside, lastInside}
-use Rattle.spreads.specs.Spread.{spread, spreadBefore, spreadAfter}
-use Rattle.spread.specs.Spread.{betweenTurn, placeBetween, placeGroup}
-use Rattle.phrases.specs.PhraseAlign.{Placing, groupOf, extend, placedIn, placeTurn, alignPhrases}
+use Rattle.spread.specs.Spread.{inside, outsideAt, firstInside, lastInside, spread, spreadBefore, spreadAfter, betweenTurn, placeBetween, placeGroup}
+use Rattle.phrase_align.specs.PhraseAlign.{Placing, groupOf, extend, placedIn, placeTurn, alignPhrases}
 use Rattle.spread.proofs.Long.{spread-long, before-long, after-long}
 use Rattle.bounds.specs.Bounds.{UnderIn, EdgesUnderIn}
 use Rattle.bounds.proofs.Rounding.{max-under}

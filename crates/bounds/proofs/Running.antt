@@ -11,20 +11,16 @@ use lib.Seq.{length-take-le}
 use lib.Ieee.{Float, nan}
 use Rattle.base.specs.Words.{Words, Spans, Edges, edges, withEdges, count, wordsInPlaces}
 use Rattle.base.specs.Parts.{OneLength}
-use Rattle.calls.proofs.Within.{AllFrom, WordsWithin, SpansWithin}
-use Rattle.levels.specs.Levels.{levels}
-use Rattle.levels.proofs.Places.{length-levels}
-use Rattle.floors.specs.Floors.{floor}
-use Rattle.envelope.specs.Levels.{loudRow, quietRow}
-use Rattle.passes.specs.Loops.{collapseLoops}
+use Rattle.word_calls.proofs.Within.{AllFrom, WordsWithin, SpansWithin}
+use Rattle.envelope.specs.Envelope.{levels, floor, loudRow, quietRow}
+use Rattle.envelope.proofs.Places.{length-levels}
+use Rattle.loops.specs.Loops.{collapseLoops}
 use Rattle.loops.proofs.Kept.{left-within}
-use Rattle.phrases.specs.PhraseAlign.{Placing, alignPhrases}
-use Rattle.phrases.proofs.Facts.{After, placed-after}
-use Rattle.fit_to_sound.specs.Fit.{fitToSound}
-use Rattle.fit_phrases.specs.FitPhrases.{fitFile}
-use Rattle.fit_file.specs.Calls.{durationOf}
-use Rattle.run_words.specs.Stages.{snapped, byPhrase, asOne, settled}
-use Rattle.after_levels.specs.AfterLevels.{runOn}
+use Rattle.phrase_align.specs.PhraseAlign.{Placing, alignPhrases}
+use Rattle.phrase_align.proofs.Facts.{After, placed-after}
+use Rattle.fit_to_sound.specs.FitToSound.{fitToSound}
+use Rattle.fit_file.specs.FitFile.{fitFile, durationOf}
+use Rattle.run_stages.specs.Stages.{snapped, byPhrase, asOne, settled, runOn}
 use Rattle.full_run.specs.FullRun.{Input, runOf, Output, fullRun}
 use Rattle.full_run.proofs.Promises.{RunWithin, accepted-exactly}
 use Rattle.bounds.specs.Bounds.{SmallTimes, UnderIn}

@@ -12,7 +12,7 @@ use Rattle.base.specs.Words.{Edges, zeroF}
 use Rattle.base.proofs.Parts.{long}
 use Rattle.base.proofs.Most.{Most}
 use Rattle.js.specs.Js.{negative, jsMax}
-use Rattle.calls.proofs.Within.{AllFrom}
+use Rattle.word_calls.proofs.Within.{AllFrom}
 use Rattle.share.specs.Share.{sum, share, boundary}
 use Rattle.share.proofs.Sums.{sum-between}
 use Rattle.share.proofs.Long.{share-long}

@@ -14,13 +14,12 @@ use lib.ListN.{length, getD, replicate}
 use lib.Ieee.{Float, nan, inf, fin, up, down, lt, le, eq, ofBits}
 use lib.Ieee.Fits.{down-pos}
 use Rattle.base.specs.Words.{Words, Spans, Edges, edges, withEdges, count, inPlaces, zeroF, wordsInPlaces}
-use Rattle.checks.specs.declared.Answer.the-variants.{Accepted}
-use Rattle.calls.proofs.Within.{Within, LimitWithin, WordsWithin}
-use Rattle.calls.proofs.Moved.{SoundWithin}
-use Rattle.envelope.specs.Levels.{loudRow}
+use Rattle.limits.specs.declared.Answer.the-variants.{Accepted}
+use Rattle.word_calls.proofs.Within.{Within, LimitWithin, WordsWithin}
+use Rattle.word_calls.proofs.Moved.{SoundWithin}
+use Rattle.envelope.specs.Envelope.{loudRow}
 use Rattle.envelope.proofs.Scan.{length-row}
-use Rattle.passes.specs.Loops.{collapseLoops}
-use Rattle.loops.specs.Calls.{Output, collapseCall}
+use Rattle.loops.specs.Loops.{collapseLoops, Output, collapseCall}
 use Rattle.loops.proofs.Kept.{All, all-append, all-at, at-all, left-within}
 use Rattle.loops.proofs.Promises as loops
 use Rattle.tails.specs.Tails.{handBackTails, tailsCall}
@@ -29,19 +28,15 @@ use Rattle.onsets.specs.Onsets.{snapOnsets, onsetsCall}
 use Rattle.onsets.proofs.Calls as onsets
 use Rattle.ends.specs.Ends.{snapEnds, endsCall}
 use Rattle.ends.proofs.Calls as ends
-use Rattle.phrases.specs.PhraseAlign.{alignPhrases, inTheirPlaces}
-use Rattle.phrase_align.specs.Calls as placings
-use Rattle.phrase_align.specs.Calls.{alignCall}
+use Rattle.phrase_align.specs.PhraseAlign.{alignPhrases, inTheirPlaces, alignCall}
+use Rattle.phrase_align.specs.PhraseAlign as placings
 use Rattle.phrase_align.proofs.Calls as placing
 use Rattle.phrase_align.specs.declared.Answer.the-variants as placed
-use Rattle.even.specs.Even.{evenOut}
-use Rattle.even.specs.Calls.{evenCall}
+use Rattle.even.specs.Even.{evenOut, evenCall}
 use Rattle.even.proofs.Calls as even
-use Rattle.fit_to_sound.specs.Fit.{fitToSound}
-use Rattle.fit_to_sound.specs.Calls.{fitCall}
+use Rattle.fit_to_sound.specs.FitToSound.{fitToSound, fitCall}
 use Rattle.fit_to_sound.proofs.Calls as fit
-use Rattle.fit_phrases.specs.FitPhrases.{fitFile}
-use Rattle.fit_file.specs.Calls.{durationOf, fitFileCall}
+use Rattle.fit_file.specs.FitFile.{fitFile, durationOf, fitFileCall}
 use Rattle.fit_file.proofs.Calls as file
 use Rattle.bounds.specs.Bounds.{Small, SmallTimes, UnderIn, EdgesUnderIn, Under, EdgesUnder}
 use Rattle.bounds.proofs.Rounding.{under-more, under-finer}

@@ -11,7 +11,7 @@ use lib.Dec.{eqb}
 use lib.ListN.{length, getD, set, length-set}
 use lib.Seq.{getD-set-same, getD-set-other}
 use lib.Ieee.{Float, nan}
-use Rattle.envelope.specs.Levels.{loud}
+use Rattle.envelope.specs.Envelope.{loud}
 use Rattle.envelope.proofs.Scan as scan
 use Rattle.bounds.specs.Bounds.{UnderIn}
 

@@ -18,11 +18,10 @@ use Rattle.base.specs.declared.Times.{Times}
 use Rattle.base.proofs.Loops.{run-out, each-keeps, each-holds}
 use Rattle.js.specs.Js.{jsMax}
 use Rattle.frames.specs.Frames.{frameAt, frameSeconds}
-use Rattle.envelope.specs.Levels.{loud}
-use Rattle.word_tail.specs.Tails.{minLetter, loudTurn, pastLoud, Quiet, pastQuiet, loudBefore, ownSound, tailOf, handBack}
-use Rattle.tails.specs.Tails.{tailTurn, handBackTails}
-use Rattle.word_tail.specs.declared.Tail.{Tail}
-use Rattle.word_tail.specs.declared.Tail.the-variants.{Keeps, Hands}
+use Rattle.envelope.specs.Envelope.{loud}
+use Rattle.tails.specs.Tails.{minLetter, loudTurn, pastLoud, Quiet, pastQuiet, loudBefore, ownSound, tailOf, handBack, tailTurn, handBackTails}
+use Rattle.tails.specs.declared.one_word.Tail.{Tail}
+use Rattle.tails.specs.declared.one_word.Tail.the-variants.{Keeps, Hands}
 use Rattle.bounds.specs.Bounds.{Under, EdgesUnder}
 use Rattle.bounds.proofs.Rounding.{max-under}
 use Rattle.bounds.proofs.Seconds.{hour-under}

@@ -4,14 +4,14 @@ use mathlib.Core.Path.{_≡_, ap, _∙_}
 use mathlib.Core.List.{List}
 use lib.Ieee.{Float}
 use Rattle.base.specs.Words.{Words}
-use Rattle.phrase_align.specs.Calls as phrases
+use Rattle.phrase_align.specs.PhraseAlign as phrases
 use Rattle.phrase_align.specs.declared.Answer.{Answer as Placed}
-use Rattle.loops.specs.Calls as loops
+use Rattle.loops.specs.Loops as loops
 use Rattle.loops.specs.declared.Answer.{Answer as Collapsed}
-use Rattle.calls.specs.Calls.{Output, output}
-use Rattle.checks.specs.declared.Answer.{Answer}
-use Rattle.checks.specs.declared.Answer.the-variants.{Accepted, Refused}
-use Rattle.fit_file.specs.Calls as fits
+use Rattle.word_calls.specs.Calls.{Output, output}
+use Rattle.limits.specs.declared.Answer.{Answer}
+use Rattle.limits.specs.declared.Answer.the-variants.{Accepted, Refused}
+use Rattle.fit_file.specs.FitFile as fits
 use Rattle.tally.specs.Tally as tally
 use Rattle.full_run.specs.FullRun as full
 use Rattle.full_run.specs.declared.Answer.{Answer as Ran}

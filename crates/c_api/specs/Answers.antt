@@ -6,16 +6,16 @@ use mathlib.Core.List.{List}
 use lib.Ieee.{Float, binary64, ofBits}
 use Rattle.base.specs.Refusals.{number}
 use Rattle.base.specs.Words.{Words}
-use Rattle.loops.specs.Calls as loops
+use Rattle.loops.specs.Loops as loops
 use Rattle.loops.specs.declared.Answer.{Answer as Collapsed}
 use Rattle.loops.specs.declared.Answer.the-variants as collapsed
-use Rattle.phrase_align.specs.Calls as phrases
+use Rattle.phrase_align.specs.PhraseAlign as phrases
 use Rattle.phrase_align.specs.declared.Answer.{Answer as Placed}
 use Rattle.phrase_align.specs.declared.Answer.the-variants as placed
-use Rattle.calls.specs.Calls as calls
+use Rattle.word_calls.specs.Calls as calls
 use Rattle.tally.specs.Tally as tally
-use Rattle.checks.specs.declared.Answer.{Answer as Moved}
-use Rattle.checks.specs.declared.Answer.the-variants as moved
+use Rattle.limits.specs.declared.Answer.{Answer as Moved}
+use Rattle.limits.specs.declared.Answer.the-variants as moved
 use Rattle.envelope.specs.declared.Answer.{Answer}
 use Rattle.envelope.specs.declared.Answer.the-variants as heard
 use Rattle.pieces.specs.declared.Answer.{Answer as Cut}

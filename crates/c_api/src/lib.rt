@@ -5,20 +5,19 @@ ghost use mathlib.Core.Bool.{cond};
 ghost use lib.Ieee.{binary64};
 ghost use Rattle.js.specs.Js.{jsMin, jsMax, jsToFixed};
 ghost use Rattle.roots.specs.Sqrt.{sqrt as sqrtOf};
-ghost use Rattle.floors.specs.Floors.{ownFloor};
-ghost use Rattle.envelope.specs.Calls.{envelopeCall};
+ghost use Rattle.envelope.specs.Envelope.{ownFloor, envelopeCall};
 ghost use Rattle.pieces.specs.Pieces.{piecesCall};
 ghost use Rattle.base.specs.Words.{words, spans};
-ghost use Rattle.loops.specs.Calls.{collapseCall};
+ghost use Rattle.loops.specs.Loops.{collapseCall};
 ghost use Rattle.tails.specs.Tails.{tailsCall};
 ghost use Rattle.onsets.specs.Onsets.{onsetsCall};
 ghost use Rattle.ends.specs.Ends.{endsCall};
-ghost use Rattle.phrase_align.specs.Calls.{alignCall};
-ghost use Rattle.even.specs.Calls.{evenCall};
+ghost use Rattle.phrase_align.specs.PhraseAlign.{alignCall};
+ghost use Rattle.even.specs.Even.{evenCall};
 ghost use Rattle.peak.specs.Peak.{peakCall};
 ghost use Rattle.last_run.specs.Calls.{lastRunCall};
-ghost use Rattle.fit_to_sound.specs.Calls.{fitCall};
-ghost use Rattle.fit_file.specs.Calls.{workPlaces, fitFileCall};
+ghost use Rattle.fit_to_sound.specs.FitToSound.{fitCall};
+ghost use Rattle.fit_file.specs.FitFile.{workPlaces, fitFileCall};
 ghost use Rattle.tally.specs.Tally.{tallyCall};
 ghost use Rattle.full_run.specs.FullRun.{input, fullRun};
 ghost use lib.ListN.{length};
@@ -103,7 +102,9 @@ fn heard(answer: envelope::Answer) -> QiluvraitHeard
 
 #[no_mangle]
 pub extern "C" fn qiluvrait_envelope(samples: &[f32], levels: &mut [f64]) -> QiluvraitHeard
-    ensures { λ r. ⌜ (r ≡ heardOf (envelopeCall (now (samples .entry)) (now (levels .entry)) .answer)) × (now (levels .exit) ≡ envelopeCall (now (samples .entry)) (now (levels .entry)) .places) ⌝ }
+    ensures { λ r.
+        ⌜ (r ≡ heardOf (envelopeCall (now (samples .entry)) (now (levels .entry)) .answer))
+        × (now (levels .exit) ≡ envelopeCall (now (samples .entry)) (now (levels .entry)) .places) ⌝ }
 {
     heard(envelope::envelope(samples, levels))
 }
@@ -112,7 +113,7 @@ pub extern "C" fn qiluvrait_envelope(samples: &[f32], levels: &mut [f64]) -> Qil
 pub extern "C" fn qiluvrait_own_floor(levels: &[f64], floor: f64) -> bool
     ensures { λ r. ⌜ r ≡ ownFloor (now (levels .entry)) floor ⌝ }
 {
-    floors::own_floor(levels, floor)
+    envelope::floor::own_floor(levels, floor)
 }
 
 // What qiluvrait_pieces answers: refusal 0 and the number of pieces, or the number of the refusal.
@@ -146,7 +147,12 @@ pub extern "C" fn qiluvrait_pieces(
     starts: &mut [usize],
     ends: &mut [usize],
 ) -> QiluvraitCut
-    ensures { λ r. ⌜ (r ≡ cutOf (piecesCall (now (levels .entry)) floor count (now (starts .entry)) (now (ends .entry)) .answer)) × ((now (starts .exit) ≡ piecesCall (now (levels .entry)) floor count (now (starts .entry)) (now (ends .entry)) .starts) × (now (ends .exit) ≡ piecesCall (now (levels .entry)) floor count (now (starts .entry)) (now (ends .entry)) .ends)) ⌝ }
+    ensures { λ r.
+        ⌜ (r ≡ cutOf (piecesCall (now (levels .entry)) floor count (now (starts .entry)) (now (ends .entry)) .answer))
+        × ((now (starts .exit)
+        ≡ piecesCall (now (levels .entry)) floor count (now (starts .entry)) (now (ends .entry)) .starts)
+        × (now (ends .exit)
+        ≡ piecesCall (now (levels .entry)) floor count (now (starts .entry)) (now (ends .entry)) .ends)) ⌝ }
 {
     cut(pieces::pieces_at(levels, floor, count, starts, ends))
 }
@@ -222,19 +228,22 @@ pub extern "C" fn qiluvrait_collapse_loops(
     units: &mut [u32],
     keys: &mut [u32],
 ) -> QiluvraitLeft
-    ensures { λ r. ⌜ leaves r (words (now (starts .exit)) (now (ends .exit)) (now (letters .exit)) (now (units .exit)) (now (keys .exit))) ≡ leavesOf (collapseCall (words (now (starts .entry)) (now (ends .entry)) (now (letters .entry)) (now (units .entry)) (now (keys .entry)))) ⌝ }
+    ensures { λ r.
+        let before = words (now (starts .entry)) (now (ends .entry)) (now (letters .entry)) (now (units .entry)) (now (keys .entry)) in
+        let after = words (now (starts .exit)) (now (ends .exit)) (now (letters .exit)) (now (units .exit)) (now (keys .exit)) in
+        ⌜ leaves r after ≡ leavesOf (collapseCall before) ⌝ }
 {
     let answer = loops::collapse_loops(starts, ends, letters, units, keys);
     left(answer)
 }
 
 // An answer of a stage that moves the times of words, as a number: 0, or the refusal's.
-fn moved(answer: checks::Answer) -> u32
+fn moved(answer: limits::Answer) -> u32
     ensures { λ r. ⌜ r ≡ movedOf answer ⌝ }
 {
     match answer {
-        checks::Answer::Accepted => 0,
-        checks::Answer::Refused(why) => base::number(why),
+        limits::Answer::Accepted => 0,
+        limits::Answer::Refused(why) => base::number(why),
     }
 }
 
@@ -249,7 +258,10 @@ pub extern "C" fn qiluvrait_hand_back_tails(
     floor: f64,
     count: usize,
 ) -> u32
-    ensures { λ r. ⌜ reply r (words (now (starts .exit)) (now (ends .exit)) (now (letters .entry)) (now (units .entry)) (now (keys .entry))) ≡ replyOf (tailsCall (words (now (starts .entry)) (now (ends .entry)) (now (letters .entry)) (now (units .entry)) (now (keys .entry))) (now (levels .entry)) floor count) ⌝ }
+    ensures { λ r.
+        let before = words (now (starts .entry)) (now (ends .entry)) (now (letters .entry)) (now (units .entry)) (now (keys .entry)) in
+        let after = words (now (starts .exit)) (now (ends .exit)) (now (letters .entry)) (now (units .entry)) (now (keys .entry)) in
+        ⌜ reply r after ≡ replyOf (tailsCall before (now (levels .entry)) floor count) ⌝ }
 {
     let answer = tails::hand_back_tails(starts, ends, letters, units, keys, levels, floor, count);
     moved(answer)
@@ -266,7 +278,10 @@ pub extern "C" fn qiluvrait_snap_onsets(
     floor: f64,
     count: usize,
 ) -> u32
-    ensures { λ r. ⌜ reply r (words (now (starts .exit)) (now (ends .entry)) (now (letters .entry)) (now (units .entry)) (now (keys .entry))) ≡ replyOf (onsetsCall (words (now (starts .entry)) (now (ends .entry)) (now (letters .entry)) (now (units .entry)) (now (keys .entry))) (now (levels .entry)) floor count) ⌝ }
+    ensures { λ r.
+        let before = words (now (starts .entry)) (now (ends .entry)) (now (letters .entry)) (now (units .entry)) (now (keys .entry)) in
+        let after = words (now (starts .exit)) (now (ends .entry)) (now (letters .entry)) (now (units .entry)) (now (keys .entry)) in
+        ⌜ reply r after ≡ replyOf (onsetsCall before (now (levels .entry)) floor count) ⌝ }
 {
     let answer = onsets::snap_onsets(starts, ends, letters, units, keys, levels, floor, count);
     moved(answer)
@@ -284,7 +299,10 @@ pub extern "C" fn qiluvrait_snap_ends(
     count: usize,
     duration: f64,
 ) -> u32
-    ensures { λ r. ⌜ reply r (words (now (starts .exit)) (now (ends .exit)) (now (letters .entry)) (now (units .entry)) (now (keys .entry))) ≡ replyOf (endsCall (words (now (starts .entry)) (now (ends .entry)) (now (letters .entry)) (now (units .entry)) (now (keys .entry))) (now (levels .entry)) floor count duration) ⌝ }
+    ensures { λ r.
+        let before = words (now (starts .entry)) (now (ends .entry)) (now (letters .entry)) (now (units .entry)) (now (keys .entry)) in
+        let after = words (now (starts .exit)) (now (ends .exit)) (now (letters .entry)) (now (units .entry)) (now (keys .entry)) in
+        ⌜ reply r after ≡ replyOf (endsCall before (now (levels .entry)) floor count duration) ⌝ }
 {
     let answer = ends::snap_ends(
         starts,
@@ -332,7 +350,11 @@ pub extern "C" fn qiluvrait_align_phrases(
     counts: &[u32],
     phrases: &mut [u32],
 ) -> QiluvraitPlaced
-    ensures { λ r. ⌜ placement r (words (now (starts .exit)) (now (ends .exit)) (now (letters .exit)) (now (units .exit)) (now (keys .exit))) (now (phrases .exit)) ≡ placementOf (alignCall (words (now (starts .entry)) (now (ends .entry)) (now (letters .entry)) (now (units .entry)) (now (keys .entry))) (spans (now («span_starts» .entry)) (now («span_ends» .entry)) (now (counts .entry))) (now (phrases .entry))) ⌝ }
+    ensures { λ r.
+        let before = words (now (starts .entry)) (now (ends .entry)) (now (letters .entry)) (now (units .entry)) (now (keys .entry)) in
+        let after = words (now (starts .exit)) (now (ends .exit)) (now (letters .exit)) (now (units .exit)) (now (keys .exit)) in
+        let allSpans = spans (now («span_starts» .entry)) (now («span_ends» .entry)) (now (counts .entry)) in
+        ⌜ placement r after (now (phrases .exit)) ≡ placementOf (alignCall before allSpans (now (phrases .entry))) ⌝ }
 {
     let answer = phrase_align::align_phrases(
         starts,
@@ -357,7 +379,10 @@ pub extern "C" fn qiluvrait_even_out(
     keys: &[u32],
     limit: f64,
 ) -> u32
-    ensures { λ r. ⌜ reply r (words (now (starts .exit)) (now (ends .exit)) (now (letters .entry)) (now (units .entry)) (now (keys .entry))) ≡ replyOf (evenCall (words (now (starts .entry)) (now (ends .entry)) (now (letters .entry)) (now (units .entry)) (now (keys .entry))) limit) ⌝ }
+    ensures { λ r.
+        let before = words (now (starts .entry)) (now (ends .entry)) (now (letters .entry)) (now (units .entry)) (now (keys .entry)) in
+        let after = words (now (starts .exit)) (now (ends .exit)) (now (letters .entry)) (now (units .entry)) (now (keys .entry)) in
+        ⌜ reply r after ≡ replyOf (evenCall before limit) ⌝ }
 {
     let answer = even::even_out(starts, ends, letters, units, keys, limit);
     moved(answer)
@@ -432,7 +457,10 @@ pub extern "C" fn qiluvrait_fit_to_sound(
     count: usize,
     duration: f64,
 ) -> u32
-    ensures { λ r. ⌜ reply r (words (now (starts .exit)) (now (ends .exit)) (now (letters .entry)) (now (units .entry)) (now (keys .entry))) ≡ replyOf (fitCall (words (now (starts .entry)) (now (ends .entry)) (now (letters .entry)) (now (units .entry)) (now (keys .entry))) (now (levels .entry)) floor count duration) ⌝ }
+    ensures { λ r.
+        let before = words (now (starts .entry)) (now (ends .entry)) (now (letters .entry)) (now (units .entry)) (now (keys .entry)) in
+        let after = words (now (starts .exit)) (now (ends .exit)) (now (letters .entry)) (now (units .entry)) (now (keys .entry)) in
+        ⌜ reply r after ≡ replyOf (fitCall before (now (levels .entry)) floor count duration) ⌝ }
 {
     let answer = fit_to_sound::fit_to_sound(
         starts,
@@ -466,7 +494,16 @@ pub extern "C" fn qiluvrait_fit_file(
     work_ends: &mut [f64],
     work_letters: &mut [u32],
 ) -> u32
-    ensures { λ r. ⌜ (reply r (words (now (starts .exit)) (now (ends .exit)) (now (letters .entry)) (now (units .entry)) (now (keys .entry))) ≡ replyOf (fitFileCall (words (now (starts .entry)) (now (ends .entry)) (now (letters .entry)) (now (units .entry)) (now (keys .entry))) (now (phrases .entry)) (spans (now («span_starts» .entry)) (now («span_ends» .entry)) (now (counts .entry))) (now (levels .entry)) floor count (workPlaces (length (now («work_starts» .entry))) (length (now («work_ends» .entry))) (length (now («work_letters» .entry)))))) × (Unchanged r (now («work_starts» .entry)) (now («work_starts» .exit)) × (Unchanged r (now («work_ends» .entry)) (now («work_ends» .exit)) × Unchanged r (now («work_letters» .entry)) (now («work_letters» .exit)))) ⌝ }
+    ensures { λ r.
+        let before = words (now (starts .entry)) (now (ends .entry)) (now (letters .entry)) (now (units .entry)) (now (keys .entry)) in
+        let after = words (now (starts .exit)) (now (ends .exit)) (now (letters .entry)) (now (units .entry)) (now (keys .entry)) in
+        let allSpans = spans (now («span_starts» .entry)) (now («span_ends» .entry)) (now (counts .entry)) in
+        let room = workPlaces (length (now («work_starts» .entry))) (length (now («work_ends» .entry))) (length (now («work_letters» .entry))) in
+        ⌜ (reply r after
+        ≡ replyOf (fitFileCall before (now (phrases .entry)) allSpans (now (levels .entry)) floor count room))
+        × (Unchanged r (now («work_starts» .entry)) (now («work_starts» .exit))
+        × (Unchanged r (now («work_ends» .entry)) (now («work_ends» .exit))
+        × Unchanged r (now («work_letters» .entry)) (now («work_letters» .exit)))) ⌝ }
 {
     let answer = fit_file::fit_file_at(
         levels,
@@ -539,7 +576,19 @@ pub extern "C" fn qiluvrait_full_run(
     work_ends: &mut [f64],
     work_letters: &mut [u32],
 ) -> QiluvraitReport
-    ensures { λ r. ⌜ (fullRunWith r (words (now (starts .exit)) (now (ends .exit)) (now (letters .exit)) (now (units .exit)) (now (keys .exit))) (now (phrases .exit)) (now (levels .exit)) (now («piece_starts» .exit)) (now («piece_ends» .exit)) ≡ fullRunOf (fullRun (input (now (samples .entry)) (words (now (starts .entry)) (now (ends .entry)) (now (letters .entry)) (now (units .entry)) (now (keys .entry))) (spans (now («span_starts» .entry)) (now («span_ends» .entry)) (now (counts .entry))) (now (phrases .entry)) (now (levels .entry)) (now («piece_starts» .entry)) (now («piece_ends» .entry)) (workPlaces (length (now («work_starts» .entry))) (length (now («work_ends» .entry))) (length (now («work_letters» .entry))))))) × (Unchanged (r .refusal) (now («work_starts» .entry)) (now («work_starts» .exit)) × (Unchanged (r .refusal) (now («work_ends» .entry)) (now («work_ends» .exit)) × Unchanged (r .refusal) (now («work_letters» .entry)) (now («work_letters» .exit)))) ⌝ }
+    ensures { λ r.
+        let before = words (now (starts .entry)) (now (ends .entry)) (now (letters .entry)) (now (units .entry)) (now (keys .entry)) in
+        let after = words (now (starts .exit)) (now (ends .exit)) (now (letters .exit)) (now (units .exit)) (now (keys .exit)) in
+        let allSpans = spans (now («span_starts» .entry)) (now («span_ends» .entry)) (now (counts .entry)) in
+        let room = workPlaces (length (now («work_starts» .entry))) (length (now («work_ends» .entry))) (length (now («work_letters» .entry))) in
+        ⌜ (fullRunWith r after (now (phrases .exit)) (now (levels .exit)) (now («piece_starts» .exit)) (now («piece_ends» .exit))
+        ≡ fullRunOf
+        (fullRun
+        (input (now (samples .entry)) before allSpans (now (phrases .entry)) (now (levels .entry))
+        (now («piece_starts» .entry)) (now («piece_ends» .entry)) room)))
+        × (Unchanged (r .refusal) (now («work_starts» .entry)) (now («work_starts» .exit))
+        × (Unchanged (r .refusal) (now («work_ends» .entry)) (now («work_ends» .exit))
+        × Unchanged (r .refusal) (now («work_letters» .entry)) (now («work_letters» .exit)))) ⌝ }
 {
     let answer = full_run::full_run(
         samples,
@@ -578,7 +627,11 @@ pub extern "C" fn qiluvrait_tally(
     count: usize,
     places: &mut [usize],
 ) -> u32
-    ensures { λ r. ⌜ tallied r (now (places .exit)) ≡ talliedOf (tallyCall (words (now (starts .entry)) (now (ends .entry)) (now (letters .entry)) (now (units .entry)) (now (keys .entry))) (now (phrases .entry)) (spans (now («span_starts» .entry)) (now («span_ends» .entry)) (now (counts .entry))) (now (levels .entry)) floor count (now (places .entry))) ⌝ }
+    ensures { λ r.
+        let before = words (now (starts .entry)) (now (ends .entry)) (now (letters .entry)) (now (units .entry)) (now (keys .entry)) in
+        let allSpans = spans (now («span_starts» .entry)) (now («span_ends» .entry)) (now (counts .entry)) in
+        ⌜ tallied r (now (places .exit))
+        ≡ talliedOf (tallyCall before (now (phrases .entry)) allSpans (now (levels .entry)) floor count (now (places .entry))) ⌝ }
 {
     let answer = tally::tally_at(
         levels,

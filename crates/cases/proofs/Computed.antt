@@ -11,23 +11,16 @@ use Rattle.base.specs.Words.{edges, times, partEdges, onPart}
 use Rattle.js.specs.Js.{under, jsMax, jsMin, jsToFixed, nearestUp}
 use Rattle.frames.specs.Frames.{floorI64, frameAt, frameFromZero, frameSeconds}
 use Rattle.roots.specs.Sqrt.{sqrt, roundRoot, nearRoot, isqrt, rootDigits}
-use Rattle.levels.specs.Levels.{hop, squares, level}
-use Rattle.envelope.specs.Levels.{quietRow}
-use Rattle.cut_cases.proofs.Computed.{all-quiet, none-quiet, first-quiet, last-quiet}
-use Rattle.copies.specs.Loops.{equal, same, copiesEnd, isLoop}
-use Rattle.passes.specs.Loops.{loopTurn, pass, collapseLoops}
-use Rattle.sounds.specs.Ends.{lastLoud, soundEnd}
-use Rattle.word_end.specs.Ends.{nextStart, isPair, pairStart, pairEdge, pairOf, reach, orDuration, trimmed, endOf}
-use Rattle.ends.specs.Ends.{setPair, endTurn, snapEnds}
+use Rattle.envelope.specs.Envelope.{hop, squares, level, quietRow}
+use Rattle.cases.proofs.CutsComputed.{all-quiet, none-quiet, first-quiet, last-quiet}
+use Rattle.loops.specs.Loops.{equal, same, copiesEnd, isLoop, loopTurn, pass, collapseLoops}
+use Rattle.ends.specs.Ends.{lastLoud, soundEnd, nextStart, isPair, pairStart, pairEdge, pairOf, reach, orDuration, trimmed, endOf, setPair, endTurn, snapEnds}
 use Rattle.share.specs.Share as shares
-use Rattle.inside.specs.Spread as insides
-use Rattle.spreads.specs.Spread as spreads
-use Rattle.spread.specs.Spread as phrases
-use Rattle.stretches.specs.Even as stretches
+use Rattle.spread.specs.Spread as spreads
 use Rattle.even.specs.Even as even
 use Rattle.last_run.specs.LastRun.{endsBetween, framesOf, frameRun, lastRun}
 use Rattle.last_run.specs.declared.Run.the-variants.{Sound}
-use Rattle.fit_group.specs.FitGroup.{insideSpan}
+use Rattle.fit_file.specs.FitFile.{insideSpan}
 use Rattle.cases.specs.Table.{Table, Sentences, double, zero, keysLeft}
 
 level-of-half : level (replicate 160 (double false 1 2)) ≡ double false 1 2
@@ -81,5 +74,5 @@ unfolding insideSpan jsMin jsMax under isNan add sub neg sum lt eq round size sp
 start-before-its-span = refl
 
 pub sentences : Sentences
-unfolding phrases.placeGroup spreads.spread insides.inside insides.firstInside insides.lastInside spreads.spreadBefore spreads.spreadAfter phrases.betweenTurn phrases.placeBetween even.evenOut even.evenTurn even.evenRun stretches.stretchOf stretches.endOf stretches.borrowed stretches.borrows stretches.ceilingOf stretches.grown stretches.grows stretches.lastCrushed stretches.withSwollen stretches.firstCrushed stretches.swollen stretches.crushed stretches.sum shares.share shares.sum partEdges onPart each fold up down jsMin jsMax under isNan add sub neg sum mul div lt le eq ofInt round size span climb units odd ofBits ofFields trailingZeros
+unfolding spreads.placeGroup spreads.spread spreads.inside spreads.firstInside spreads.lastInside spreads.spreadBefore spreads.spreadAfter spreads.betweenTurn spreads.placeBetween even.evenOut even.evenTurn even.evenRun even.stretchOf even.endOf even.borrowed even.borrows even.ceilingOf even.grown even.grows even.lastCrushed even.withSwollen even.firstCrushed even.swollen even.crushed even.sum shares.share shares.sum partEdges onPart each fold up down jsMin jsMax under isNan add sub neg sum mul div lt le eq ofInt round size span climb units odd ofBits ofFields trailingZeros
 sentences = record { spread-over-the-span = refl; span-reversed = refl; last-end-kept = refl; start-before-its-span = start-before-its-span }

@@ -1,2 +1,3 @@
 -- The table, proved.
+pub mod CutsComputed
 pub mod Computed

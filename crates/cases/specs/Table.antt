@@ -8,17 +8,16 @@ use mathlib.Core.List.{List, [], _∷_, _++_}
 use lib.ListN.{replicate}
 use Rattle.base.specs.Words.{words, edges, times}
 use Rattle.js.specs.Js.{jsToFixed}
-use Rattle.levels.specs.Levels.{hop, level}
-use Rattle.envelope.specs.Levels.{quietRow}
-use Rattle.cuts.specs.Pieces.{cut}
-use Rattle.cut_cases.specs.Frames.{quietFrames}
-use Rattle.passes.specs.Loops.{collapseLoops}
+use Rattle.envelope.specs.Envelope.{hop, level, quietRow}
+use Rattle.pieces.specs.Pieces.{cut}
+use Rattle.cases.specs.CutFrames.{quietFrames}
+use Rattle.loops.specs.Loops.{collapseLoops}
 use Rattle.ends.specs.Ends.{snapEnds}
 use Rattle.spread.specs.Spread.{placeGroup}
 use Rattle.even.specs.Even.{evenOut}
 use Rattle.last_run.specs.LastRun.{lastRun}
 use Rattle.last_run.specs.declared.Run.the-variants.{Sound}
-use Rattle.fit_group.specs.FitGroup.{insideSpan}
+use Rattle.fit_file.specs.FitFile.{insideSpan}
 
 -- ---- The double that a decimal number stands for: the nearest to n / d, with a sign.
 abbrev pub double : Bool → ℕ → ℕ → Float

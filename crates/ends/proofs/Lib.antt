@@ -1,4 +1,8 @@
 -- Laws of words' ends: one word's turn, and the call.
+pub mod SoundEnds
+pub mod EndOf
+pub mod Rise
+pub mod OneWord
 pub mod Turns
 pub mod Calls
 mod Witnesses

@@ -9,9 +9,8 @@ use lib.Ieee.{Float, nan}
 use Rattle.base.specs.Words.{Edges, edges, times}
 use Rattle.base.specs.declared.Times.{Times}
 use Rattle.base.specs.declared.NextStart.{NextStart}
-use Rattle.word_end.specs.Ends.{nextStart, isPair, pairOf, endOf}
-use Rattle.ends.specs.Ends.{endTurn, setPair}
-use Rattle.word_end.proofs.OneWord.{trim-start}
+use Rattle.ends.specs.Ends.{nextStart, isPair, pairOf, endOf, endTurn, setPair}
+use Rattle.ends.proofs.OneWord.{trim-start}
 
 -- ---- what is stored
 module _ (row : List Bool) (duration : Float) (units : List ℕ) (i : ℕ) (starts ends : List Float) where

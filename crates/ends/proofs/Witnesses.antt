@@ -13,15 +13,12 @@ use Rattle.base.specs.Loop.{each, run}
 use Rattle.base.specs.declared.Refusal.the-variants.{Time, Letters, Lengths, Counts, Levels}
 use Rattle.js.specs.Js.{under, jsMin, jsMax, jsToFixed, nearestUp}
 use Rattle.frames.specs.Frames.{floorI64, frameAt, frameSeconds}
-use Rattle.envelope.specs.Levels.{loudRow}
-use Rattle.time_tests.specs.Limits.{timeOf}
-use Rattle.checks.specs.Limits.{any}
-use Rattle.checks.specs.Order.{inOrder, chain}
-use Rattle.calls.specs.Calls.{uneven, ofWords, withLevels, withTime, timedRule, output}
-use Rattle.checks.specs.declared.Answer.the-variants.{Accepted, Refused}
-use Rattle.sounds.specs.Ends.{lastLoud, soundEnd}
-use Rattle.word_end.specs.Ends.{nextStart, isPair, pairStart, pairEdge, pairOf, reach, orDuration, trimmed, endOf}
-use Rattle.ends.specs.Ends.{setPair, endTurn, snapEnds, endsCall}
+use Rattle.envelope.specs.Envelope.{loudRow}
+use Rattle.limits.specs.Limits.{timeOf, any}
+use Rattle.limits.specs.Order.{inOrder, chain}
+use Rattle.word_calls.specs.Calls.{uneven, ofWords, withLevels, withTime, timedRule, output}
+use Rattle.limits.specs.declared.Answer.the-variants.{Accepted, Refused}
+use Rattle.ends.specs.Ends.{lastLoud, soundEnd, nextStart, isPair, pairStart, pairEdge, pairOf, reach, orDuration, trimmed, endOf, setPair, endTurn, snapEnds, endsCall}
 
 -- so many hundredths of a second
 abbrev time : ℕ → Float

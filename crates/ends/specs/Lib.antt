@@ -1,2 +1,3 @@
 -- Ends moved to where the sound stops.
 pub mod Ends
+pub mod Parts

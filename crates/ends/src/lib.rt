@@ -3,12 +3,15 @@ ghost use mathlib.Core.Path.{_≡_};
 ghost use Prim.Native.Nat.{_+_, _<_, _≤_, _^_};
 ghost use lib.ListN.{length};
 ghost use Rattle.base.specs.Words.{words, edges};
-ghost use Rattle.envelope.specs.Levels.{loudRow};
-ghost use Rattle.calls.specs.Calls.{output};
+ghost use Rattle.envelope.specs.Envelope.{loudRow};
+ghost use Rattle.word_calls.specs.Calls.{output};
 ghost use Rattle.ends.specs.Ends.{endTurn, snapEnds, endsCall, setPair};
 use base::Rule;
 use base::Times;
-use checks::Answer;
+use limits::Answer;
+
+pub mod one_word;
+pub mod sound;
 
 // Stores the times of the first of two words, and the edge as the second's start.
 fn set_pair(starts: &mut [f64], ends: &mut [f64], i: usize, t: Times)
@@ -30,20 +33,25 @@ fn snap_end(
     duration: f64,
     i: usize,
 )
-    requires { ⌜ (i < length (now starts)) × ((length (now ends) ≡ length (now starts)) × ((length (now units) ≡ length (now starts)) × (length (now levels) ≤ 2 ^ 40))) ⌝ }
-    ensures { λ _. ⌜ edges (now (starts .exit)) (now (ends .exit)) ≡ endTurn (loudRow floor (now (levels .entry))) duration (now (units .entry)) i (edges (now (starts .entry)) (now (ends .entry))) ⌝ }
+    requires { ⌜ (i < length (now starts))
+        × ((length (now ends) ≡ length (now starts))
+        × ((length (now units) ≡ length (now starts)) × (length (now levels) ≤ 2 ^ 40))) ⌝ }
+    ensures { λ _.
+        let before = edges (now (starts .entry)) (now (ends .entry)) in
+        let after = edges (now (starts .exit)) (now (ends .exit)) in
+        ⌜ after ≡ endTurn (loudRow floor (now (levels .entry))) duration (now (units .entry)) i before ⌝ }
 {
     let w = Times {
         start: starts[i],
         end: ends[i],
     };
-    let next = word_end::next_start(starts, i);
-    if word_end::is_pair(next, w) {
-        let t = word_end::pair_of(levels, floor, w, ends[i + 1], units[i], units[i + 1]);
+    let next = one_word::next_start(starts, i);
+    if one_word::is_pair(next, w) {
+        let t = one_word::pair_of(levels, floor, w, ends[i + 1], units[i], units[i + 1]);
         set_pair(starts, ends, i, t);
         return;
     }
-    let cut = word_end::end_of(levels, floor, duration, next, w);
+    let cut = one_word::end_of(levels, floor, duration, next, w);
     ends[i] = cut.end;
 }
 
@@ -57,7 +65,10 @@ pub fn move_ends(
     duration: f64,
 )
     requires { ⌜ (length (now ends) ≡ length (now starts)) × ((length (now units) ≡ length (now starts)) × (length (now levels) ≤ 2 ^ 40)) ⌝ }
-    ensures { λ _. ⌜ edges (now (starts .exit)) (now (ends .exit)) ≡ snapEnds (loudRow floor (now (levels .entry))) duration (now (units .entry)) (edges (now (starts .entry)) (now (ends .entry))) ⌝ }
+    ensures { λ _.
+        let before = edges (now (starts .entry)) (now (ends .entry)) in
+        let after = edges (now (starts .exit)) (now (ends .exit)) in
+        ⌜ after ≡ snapEnds (loudRow floor (now (levels .entry))) duration (now (units .entry)) before ⌝ }
 {
     let mut i = 0;
     while i < starts.len() {
@@ -78,9 +89,12 @@ pub fn snap_ends(
     count: usize,
     duration: f64,
 ) -> Answer
-    ensures { λ r. ⌜ output r (words (now (starts .exit)) (now (ends .exit)) (now (letters .entry)) (now (units .entry)) (now (keys .entry))) ≡ endsCall (words (now (starts .entry)) (now (ends .entry)) (now (letters .entry)) (now (units .entry)) (now (keys .entry))) (now (levels .entry)) floor count duration ⌝ }
+    ensures { λ r.
+        let before = words (now (starts .entry)) (now (ends .entry)) (now (letters .entry)) (now (units .entry)) (now (keys .entry)) in
+        let after = words (now (starts .exit)) (now (ends .exit)) (now (letters .entry)) (now (units .entry)) (now (keys .entry)) in
+        ⌜ output r after ≡ endsCall before (now (levels .entry)) floor count duration ⌝ }
 {
-    let rule = calls::timed_rule(
+    let rule = word_calls::timed_rule(
         starts,
         ends,
         letters,

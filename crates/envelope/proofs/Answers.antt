@@ -3,11 +3,9 @@ use mathlib.Core.Path.{_≡_}
 use mathlib.Core.List.{List, _++_}
 use lib.ListN.{take, drop}
 use lib.Ieee.{Float}
-use Rattle.levels.specs.Levels.{frames, levels}
-use Rattle.floors.specs.Floors.{floor}
-use Rattle.envelope.specs.Calls.{output, accepted}
+use Rattle.envelope.specs.Envelope.{frames, levels, floor, output, accepted}
 use Rattle.envelope.specs.declared.Answer.the-variants.{Accepted}
-use Rattle.levels.proofs.Places.{front-levels}
+use Rattle.envelope.proofs.Places.{front-levels}
 
 pub accepted-is : (samples places held : List Float) (f : Float) → held ≡ levels samples ++ drop (frames samples) places → f ≡ floor (take (frames samples) held)
     → output (Accepted f) held ≡ accepted samples places

@@ -1,4 +1,7 @@
 -- Laws of loud frames, and the calls in plain words.
+pub mod Places
+pub mod Fours
+pub mod Floors
 pub mod Answers
 pub mod Limits
 pub mod Loudness

@@ -9,8 +9,7 @@ use Rattle.base.specs.Refusals.{first}
 use Rattle.base.specs.declared.Rule.{Rule}
 use Rattle.base.specs.declared.Rule.the-variants.{Fine}
 use Rattle.base.proofs.First.{fine-none}
-use Rattle.levels.specs.Levels.{frames}
-use Rattle.envelope.specs.Calls.{tests, byRule, envelopeCall}
+use Rattle.envelope.specs.Envelope.{frames, tests, byRule, envelopeCall}
 
 pub fine-limits : (samples places : List Float) → first (tests samples places) ≡ Fine → (length samples ≤ 57600000) × (frames samples ≤ length places)
 unfolding tests

@@ -6,7 +6,7 @@ use Prim.Native.Nat.{ℕ, _≤_}
 use lib.ListN.{length, getD, List·getD-map, List·getD-eq-default}
 use lib.Ieee.{Float, nan, lt}
 use Rattle.base.proofs.Signs.{lt-nan}
-use Rattle.envelope.specs.Levels.{loudRow}
+use Rattle.envelope.specs.Envelope.{loudRow}
 
 -- ---- a frame's level, by its number
 pub loud-level : (f : Float) (ls : List Float) (k : ℕ) → getD (loudRow f ls) k false ≡ lt f (getD ls k nan)

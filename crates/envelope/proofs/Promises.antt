@@ -18,10 +18,8 @@ use Rattle.base.specs.declared.Refusal.the-variants.{Counts, Places}
 use Rattle.base.specs.declared.Rule.{Rule}
 use Rattle.base.specs.declared.Rule.the-variants.{Fine, Breaks}
 use Rattle.base.proofs.First.{first-here, first-skip, first-end}
-use Rattle.size_tests.specs.Limits.{manySamples, fewPlaces}
-use Rattle.levels.specs.Levels.{frames, levels}
-use Rattle.floors.specs.Floors.{peak, hundredth, floor, alike, ownFloor}
-use Rattle.envelope.specs.Calls.{tests, byRule, accepted, envelopeCall}
+use Rattle.limits.specs.Limits.{manySamples, fewPlaces}
+use Rattle.envelope.specs.Envelope.{frames, levels, peak, hundredth, floor, alike, ownFloor, tests, byRule, accepted, envelopeCall}
 use Rattle.envelope.specs.declared.Answer.the-variants.{Accepted, Refused}
 use Rattle.envelope.proofs.Limits.{call-by}
 

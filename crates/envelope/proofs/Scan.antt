@@ -9,7 +9,7 @@ use lib.Dec.{ltb}
 use lib.IntN.{pos}
 use lib.ListN.{length, length-map, List·getD-eq-default}
 use lib.Ieee.{Float, lt}
-use Rattle.envelope.specs.Levels.{loud, loudRow}
+use Rattle.envelope.specs.Envelope.{loud, loudRow}
 
 pub beq-is : (a b : Bool) → Bool·beq a b ≡ true → a ≡ b
 beq-is true true e = refl

@@ -8,9 +8,7 @@ use lib.Dec.{lit<, lit≤}
 use lib.ListN.{replicate, length-replicate}
 use lib.Ieee.{Float, fin}
 use Rattle.base.specs.declared.Refusal.the-variants.{Counts, Places}
-use Rattle.levels.specs.Levels.{levels}
-use Rattle.floors.specs.Floors.{floor}
-use Rattle.envelope.specs.Calls.{envelopeCall}
+use Rattle.envelope.specs.Envelope.{levels, floor, envelopeCall}
 use Rattle.envelope.specs.declared.Answer.the-variants.{Accepted, Refused}
 use Rattle.envelope.proofs.Promises.{accepted-exactly, refused-4-exactly, refused-6-exactly}
 

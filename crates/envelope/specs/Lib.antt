@@ -1,4 +1,3 @@
--- Which frames are loud or quiet; the call.
-pub mod Levels
-pub mod Calls
+-- Levels, floor, loud and quiet frames; the call.
+pub mod Envelope
 pub mod Parts

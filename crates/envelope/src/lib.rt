@@ -4,13 +4,13 @@ ghost use mathlib.Core.Bool.{false};
 ghost use Prim.Native.Nat.{_≤_};
 ghost use lib.ListN.{length, getD};
 ghost use Rattle.base.specs.Refusals.{first};
-ghost use Rattle.levels.specs.Levels.{frames};
-ghost use Rattle.envelope.specs.Levels.{loudRow};
+ghost use Rattle.envelope.specs.Envelope.{frames, loudRow, output, tests, accepted, envelopeCall};
 ghost use Rattle.envelope.specs.Parts.{Met, Past};
-ghost use Rattle.envelope.specs.Calls.{output, tests, accepted, envelopeCall};
 use base::Refusal;
 use base::Rule;
 
+pub mod floor;
+pub mod level;
 pub mod view;
 
 // Samples in a frame.
@@ -26,10 +26,10 @@ pub enum Answer {
 fn judge(samples: &[f32], levels: &[f64]) -> Rule
     ensures { λ r. ⌜ r ≡ first (tests (now (samples .entry)) (now (levels .entry))) ⌝ }
 {
-    if size_tests::many_samples(samples.len()) {
+    if limits::sizes::many_samples(samples.len()) {
         return Rule::Breaks(Refusal::Counts);
     }
-    if size_tests::few_places(levels.len(), samples.len() / HOP) {
+    if limits::sizes::few_places(levels.len(), samples.len() / HOP) {
         return Rule::Breaks(Refusal::Places);
     }
     Rule::Fine
@@ -40,9 +40,9 @@ fn accept(samples: &[f32], levels: &mut [f64]) -> Answer
     requires { ⌜ (length (now samples) ≤ 57600000) × (frames (now samples) ≤ length (now levels)) ⌝ }
     ensures { λ r. ⌜ output r (now (levels .exit)) ≡ accepted (now (samples .entry)) (now (levels .entry)) ⌝ }
 {
-    levels::fill(samples, levels);
+    level::fill(samples, levels);
     let n = samples.len() / HOP;
-    Answer::Accepted(floors::floor_of(&levels[..n]))
+    Answer::Accepted(floor::floor_of(&levels[..n]))
 }
 
 // The levels of a recording in lent places, and the floor under them (envelope.rs, envelope).

@@ -2,8 +2,7 @@
 ghost use mathlib.Core.Path.{_≡_};
 ghost use mathlib.Core.Bool.{false};
 ghost use lib.ListN.{length, getD};
-ghost use Rattle.envelope.specs.Levels.{loudRow};
-ghost use Rattle.floors.specs.Floors.{ownFloor};
+ghost use Rattle.envelope.specs.Envelope.{loudRow, ownFloor};
 
 // The levels of a recording of `count` samples, and the floor under them.
 pub struct Envelope<'a> {
@@ -41,7 +40,7 @@ pub fn loud<'a>(e: Envelope<'a>, k: usize) -> bool
 pub fn own<'a>(e: Envelope<'a>) -> bool
     ensures { λ r. ⌜ r ≡ ownFloor (now (e .entry .levels)) (e .entry .floor) ⌝ }
 {
-    floors::own_floor(e.levels, e.floor)
+    super::floor::own_floor(e.levels, e.floor)
 }
 
 // `loud` for a caller that has the levels, the floor and the count apart.

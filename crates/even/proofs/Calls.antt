@@ -8,13 +8,12 @@ use Rattle.base.specs.declared.Refusal.{Refusal}
 use Rattle.base.specs.declared.Rule.{Rule}
 use Rattle.base.specs.declared.Rule.the-variants.{Fine, Breaks}
 use Rattle.base.proofs.First.{First}
-use Rattle.checks.specs.Order.{inOrder}
-use Rattle.calls.specs.Calls.{limitRule, output}
-use Rattle.checks.specs.declared.Answer.the-variants.{Accepted, Refused}
-use Rattle.calls.proofs.Within.{WordsWithin, LimitWithin}
-use Rattle.calls.proofs.Moved as moves
-use Rattle.even.specs.Even.{evenOut}
-use Rattle.even.specs.Calls.{evenCall}
+use Rattle.limits.specs.Order.{inOrder}
+use Rattle.word_calls.specs.Calls.{limitRule, output}
+use Rattle.limits.specs.declared.Answer.the-variants.{Accepted, Refused}
+use Rattle.word_calls.proofs.Within.{WordsWithin, LimitWithin}
+use Rattle.word_calls.proofs.Moved as moves
+use Rattle.even.specs.Even.{evenOut, evenCall}
 
 module _ (ws : Words) (limit : Float) where
   -- the edges that the stage gives

@@ -10,9 +10,8 @@ use Rattle.base.specs.Floats.{_⊖_}
 use Rattle.base.specs.Words.{Edges, edges, part, withPart, partEdges}
 use Rattle.base.proofs.Parts.{part-made}
 use Rattle.share.specs.Share as shares
-use Rattle.stretches.specs.Even.{sum, crushed, stretchOf}
-use Rattle.even.specs.Even.{evenRun, evenTurn}
-use Rattle.stretches.specs.declared.Stretch.{Stretch}
+use Rattle.even.specs.Even.{sum, crushed, stretchOf, evenRun, evenTurn}
+use Rattle.even.specs.declared.stretch.Stretch.{Stretch}
 
 module _ (letters : List ℕ) (es : Edges) (limit : Float) where
   -- ---- a turn

@@ -15,9 +15,8 @@ use Rattle.base.specs.Words.{Edges, partEdges}
 use Rattle.base.proofs.Loops.{each-keeps, up-ge}
 use Rattle.base.proofs.Parts.{long, onPart-long}
 use Rattle.share.proofs.Long.{share-long}
-use Rattle.stretches.specs.Even.{crushed, grows, withSwollen, firstCrushed, lastCrushed, grown, stretchOf}
-use Rattle.even.specs.Even.{evenRun, Evening, evenTurn, evenOut}
-use Rattle.stretches.specs.declared.Stretch.{Stretch}
+use Rattle.even.specs.Even.{crushed, grows, withSwollen, firstCrushed, lastCrushed, grown, stretchOf, evenRun, Evening, evenTurn, evenOut}
+use Rattle.even.specs.declared.stretch.Stretch.{Stretch}
 
 -- a run keeps the lengths, for its words come back as many as they were
 run-long : (letters : List ℕ) (r : Stretch) (es : Edges) → long (evenRun letters r es) ≡ long es

@@ -12,10 +12,8 @@ use Rattle.base.specs.Words.{Words, Edges, edges, withEdges}
 use Rattle.base.specs.declared.Rule.{Rule}
 use Rattle.base.specs.declared.Rule.the-variants.{Fine, Breaks}
 use Rattle.base.proofs.Loops.{each-holds}
-use Rattle.calls.specs.Calls.{limitRule, moved}
-use Rattle.even.specs.Calls.{evenCall}
-use Rattle.stretches.specs.Even.{crushed}
-use Rattle.even.specs.Even.{evenOut, Evening, evenTurn}
+use Rattle.word_calls.specs.Calls.{limitRule, moved}
+use Rattle.even.specs.Even.{evenCall, crushed, evenOut, Evening, evenTurn}
 use Rattle.even.proofs.Runs.{turn-long}
 use Rattle.even.proofs.Turns.{turn-past}
 

@@ -12,16 +12,13 @@ use Rattle.base.specs.Refusals.{first}
 use Rattle.base.specs.Words.{Words, words, partEdges, onPart}
 use Rattle.base.specs.declared.Refusal.the-variants.{Time, Letters, Lengths, Counts}
 use Rattle.js.specs.Js.{under, jsMin, jsMax}
-use Rattle.time_tests.specs.Limits.{timeOf, limitOf}
-use Rattle.checks.specs.Limits.{any}
-use Rattle.checks.specs.Order.{inOrder, chain}
-use Rattle.calls.specs.Calls.{uneven, ofWords, withLimit, limitRule, output}
-use Rattle.checks.specs.declared.Answer.the-variants.{Accepted, Refused}
+use Rattle.limits.specs.Limits.{timeOf, limitOf, any}
+use Rattle.limits.specs.Order.{inOrder, chain}
+use Rattle.word_calls.specs.Calls.{uneven, ofWords, withLimit, limitRule, output}
+use Rattle.limits.specs.declared.Answer.the-variants.{Accepted, Refused}
 use Rattle.share.specs.Share as shares
-use Rattle.stretches.specs.Even as stretches
-use Rattle.stretches.specs.Even.{crushed, swollen, firstCrushed, withSwollen, lastCrushed, grows, grown, ceilingOf, borrows, borrowed, endOf, stretchOf}
-use Rattle.even.specs.Even.{evenRun, evenTurn, evenOut}
-use Rattle.even.specs.Calls.{evenCall}
+use Rattle.even.specs.Even as stretches
+use Rattle.even.specs.Even.{crushed, swollen, firstCrushed, withSwollen, lastCrushed, grows, grown, ceilingOf, borrows, borrowed, endOf, stretchOf, evenRun, evenTurn, evenOut, evenCall}
 
 -- n / 2 ^ k seconds, for an odd n
 abbrev time : ℕ → ℕ → Float

@@ -1,3 +1,2 @@
 -- Crushed words, and the time they get.
 pub mod Even
-pub mod Calls

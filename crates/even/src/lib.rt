@@ -3,22 +3,29 @@ ghost use mathlib.Core.Path.{_≡_};
 ghost use Prim.Native.Nat.{_-_, _<_, _≤_};
 ghost use lib.ListN.{length};
 ghost use Rattle.base.specs.Words.{words, edges};
-ghost use Rattle.calls.specs.Calls.{output};
-ghost use Rattle.even.specs.Even.{evenRun, evenTurn, evenOut};
-ghost use Rattle.even.specs.Calls.{evenCall};
+ghost use Rattle.word_calls.specs.Calls.{output};
+ghost use Rattle.even.specs.Even.{evenRun, evenTurn, evenOut, evenCall};
 use base::Rule;
-use checks::Answer;
-use stretches::Stretch;
+use limits::Answer;
+use stretch::Stretch;
+
+pub mod stretch;
 
 // The words of a run share its time by letters.
 fn even_run(starts: &mut [f64], ends: &mut [f64], letters: &[u32], r: Stretch)
-    requires { ⌜ (r .first ≤ r .last) × ((r .last < length (now starts)) × ((length (now ends) ≡ length (now starts)) × ((length (now letters) ≡ length (now starts)) × (length (now starts) ≤ 4096)))) ⌝ }
-    ensures { λ _. ⌜ edges (now (starts .exit)) (now (ends .exit)) ≡ evenRun (now (letters .entry)) r (edges (now (starts .entry)) (now (ends .entry))) ⌝ }
+    requires { ⌜ (r .first ≤ r .last)
+        × ((r .last < length (now starts))
+        × ((length (now ends) ≡ length (now starts))
+        × ((length (now letters) ≡ length (now starts)) × (length (now starts) ≤ 4096)))) ⌝ }
+    ensures { λ _.
+        let before = edges (now (starts .entry)) (now (ends .entry)) in
+        let after = edges (now (starts .exit)) (now (ends .exit)) in
+        ⌜ after ≡ evenRun (now (letters .entry)) r before ⌝ }
 {
     let a = r.first;
     let e = r.last + 1;
     let start = starts[a];
-    let total = stretches::sum(letters, a, r.last);
+    let total = stretch::sum(letters, a, r.last);
     share::share(
         &mut starts[a..e],
         &mut ends[a..e],
@@ -31,11 +38,16 @@ fn even_run(starts: &mut [f64], ends: &mut [f64], letters: &[u32], r: Stretch)
 
 // Evens the run of word i where it is crushed; the word to look at next.
 fn even_turn(starts: &mut [f64], ends: &mut [f64], letters: &[u32], limit: f64, i: usize) -> usize
-    requires { ⌜ (i < length (now starts)) × ((length (now ends) ≡ length (now starts)) × ((length (now letters) ≡ length (now starts)) × (length (now starts) ≤ 4096))) ⌝ }
-    ensures { λ r. ⌜ (record { edges = edges (now (starts .exit)) (now (ends .exit)); i = r } ≡ evenTurn (now (letters .entry)) limit (record { edges = edges (now (starts .entry)) (now (ends .entry)); i = i })) × (i < r) ⌝ }
+    requires { ⌜ (i < length (now starts))
+        × ((length (now ends) ≡ length (now starts))
+        × ((length (now letters) ≡ length (now starts)) × (length (now starts) ≤ 4096))) ⌝ }
+    ensures { λ r.
+        ⌜ (record { edges = edges (now (starts .exit)) (now (ends .exit)); i = r }
+        ≡ evenTurn (now (letters .entry)) limit (record { edges = edges (now (starts .entry)) (now (ends .entry)); i = i }))
+        × (i < r) ⌝ }
 {
-    if stretches::is_crushed(starts, ends, i) {
-        let r = stretches::stretch_of(starts, ends, letters, limit, i);
+    if stretch::is_crushed(starts, ends, i) {
+        let r = stretch::stretch_of(starts, ends, letters, limit, i);
         even_run(starts, ends, letters, r);
         return r.last + 1;
     }
@@ -45,7 +57,10 @@ fn even_turn(starts: &mut [f64], ends: &mut [f64], letters: &[u32], limit: f64, 
 // Shares out the time of each run of crushed words (even.rs, even_out); nothing is checked.
 pub fn even_words(starts: &mut [f64], ends: &mut [f64], letters: &[u32], limit: f64)
     requires { ⌜ (length (now ends) ≡ length (now starts)) × ((length (now letters) ≡ length (now starts)) × (length (now starts) ≤ 4096)) ⌝ }
-    ensures { λ _. ⌜ edges (now (starts .exit)) (now (ends .exit)) ≡ evenOut (now (letters .entry)) limit (edges (now (starts .entry)) (now (ends .entry))) ⌝ }
+    ensures { λ _.
+        let before = edges (now (starts .entry)) (now (ends .entry)) in
+        let after = edges (now (starts .exit)) (now (ends .exit)) in
+        ⌜ after ≡ evenOut (now (letters .entry)) limit before ⌝ }
 {
     let mut i = 0;
     while i < letters.len() {
@@ -62,9 +77,12 @@ pub fn even_out(
     keys: &[u32],
     limit: f64,
 ) -> Answer
-    ensures { λ r. ⌜ output r (words (now (starts .exit)) (now (ends .exit)) (now (letters .entry)) (now (units .entry)) (now (keys .entry))) ≡ evenCall (words (now (starts .entry)) (now (ends .entry)) (now (letters .entry)) (now (units .entry)) (now (keys .entry))) limit ⌝ }
+    ensures { λ r.
+        let before = words (now (starts .entry)) (now (ends .entry)) (now (letters .entry)) (now (units .entry)) (now (keys .entry)) in
+        let after = words (now (starts .exit)) (now (ends .exit)) (now (letters .entry)) (now (units .entry)) (now (keys .entry)) in
+        ⌜ output r after ≡ evenCall before limit ⌝ }
 {
-    let rule = calls::limit_rule(starts, ends, letters, units, keys, limit);
+    let rule = word_calls::limit_rule(starts, ends, letters, units, keys, limit);
     match rule {
         Rule::Breaks(why) => Answer::Refused(why),
         Rule::Fine => {

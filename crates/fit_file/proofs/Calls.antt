@@ -11,13 +11,12 @@ use Rattle.base.specs.declared.Refusal.{Refusal}
 use Rattle.base.specs.declared.Rule.{Rule}
 use Rattle.base.specs.declared.Rule.the-variants.{Fine, Breaks}
 use Rattle.base.proofs.First.{First}
-use Rattle.checks.specs.Order.{inOrder}
-use Rattle.checks.specs.declared.Answer.the-variants.{Accepted, Refused}
-use Rattle.calls.specs.Calls.{phrasesRule, output}
-use Rattle.calls.proofs.Moved as moves
-use Rattle.envelope.specs.Levels.{loudRow}
-use Rattle.fit_phrases.specs.FitPhrases.{fitFile}
-use Rattle.fit_file.specs.Calls.{durationOf, workPlaces, fitFileCall}
+use Rattle.limits.specs.Order.{inOrder}
+use Rattle.limits.specs.declared.Answer.the-variants.{Accepted, Refused}
+use Rattle.word_calls.specs.Calls.{phrasesRule, output}
+use Rattle.word_calls.proofs.Moved as moves
+use Rattle.envelope.specs.Envelope.{loudRow}
+use Rattle.fit_file.specs.FitFile.{fitFile, durationOf, workPlaces, fitFileCall}
 
 module _ (ws : Words) (phrases : List ℕ) (spans : Spans) (levels : List Float) (floor : Float) (samples places : ℕ) where
   -- the edges that the fit gives

@@ -1,3 +1,8 @@
 -- The call, in plain words.
+pub mod Members
+pub mod Local
+pub mod Turns
+pub mod Kept
+mod Phrases
 pub mod Calls
 mod Witnesses

@@ -13,24 +13,16 @@ use Rattle.base.specs.Loop.{each, run, runBack}
 use Rattle.base.specs.declared.Refusal.the-variants.{Time, Letters, Lengths, Counts, Levels, Places}
 use Rattle.js.specs.Js.{under, jsMin, jsMax}
 use Rattle.frames.specs.Frames.{floorI64, frameAt, frameFromZero, frameSeconds}
-use Rattle.envelope.specs.Levels.{loudRow}
-use Rattle.checks.specs.Limits.{any}
-use Rattle.time_tests.specs.Limits.{timeOf}
-use Rattle.checks.specs.Order.{inOrder, chain}
-use Rattle.checks.specs.declared.Answer.the-variants.{Accepted, Refused}
-use Rattle.calls.specs.Calls.{uneven, ofWords, withLevels, withList, unevenSpans, manySpans, withSpans, withPlaces, phrasesRule, Output, output}
-use Rattle.word_end.specs.Ends.{nextStart, orDuration}
-use Rattle.sounds.specs.Ends.{lastLoud, soundEnd}
-use Rattle.stretches.specs.Even.{crushed}
-use Rattle.even.specs.Even.{evenTurn, evenOut}
-use Rattle.groups.specs.Groups.{memberTurn, membersOf, picked, pickedEdges, putBack, putEdges}
+use Rattle.envelope.specs.Envelope.{loudRow}
+use Rattle.limits.specs.Limits.{any, timeOf}
+use Rattle.limits.specs.Order.{inOrder, chain}
+use Rattle.limits.specs.declared.Answer.the-variants.{Accepted, Refused}
+use Rattle.word_calls.specs.Calls.{uneven, ofWords, withLevels, withList, unevenSpans, manySpans, withSpans, withPlaces, phrasesRule, Output, output}
+use Rattle.ends.specs.Ends.{nextStart, orDuration, lastLoud, soundEnd}
+use Rattle.even.specs.Even.{crushed, evenTurn, evenOut}
+use Rattle.fit_file.specs.FitFile.{memberTurn, membersOf, picked, pickedEdges, putBack, putEdges, insideSpan, insideTurn, keepInside, takeRun, takeTrailing, fitGroup, fitPhrase, fitFile, durationOf, fitFileCall}
 use Rattle.last_run.specs.LastRun.{endsBetween, framesOf, frameRun, lastRun}
-use Rattle.fit_starts.specs.Fit.{stepStart, inOrder as endInOrder, orderTurn, putInOrder, isLoudRun, stopBefore, stopAt, riseFrame, movedTo, riseOf, riseTurnOf, moveToRise, clipped, clipTurn, clip}
-use Rattle.fit_ends.specs.Fit.{soundEndIn, quietBetween, quietRun, cutBack, lastsTo, endedBy, endOf, endTurn, settleEnds}
-use Rattle.fit_to_sound.specs.Fit.{fitToSound}
-use Rattle.fit_group.specs.FitGroup.{insideSpan, insideTurn, keepInside, takeRun, takeTrailing, fitGroup}
-use Rattle.fit_phrases.specs.FitPhrases.{fitPhrase, fitFile}
-use Rattle.fit_file.specs.Calls.{durationOf, fitFileCall}
+use Rattle.fit_to_sound.specs.FitToSound.{stepStart, inOrder as endInOrder, orderTurn, putInOrder, isLoudRun, stopBefore, stopAt, riseFrame, movedTo, riseOf, riseTurnOf, moveToRise, clipped, clipTurn, clip, soundEndIn, quietBetween, quietRun, cutBack, lastsTo, endedBy, endOf, endTurn, settleEnds, fitToSound}
 
 -- so many hundredths of a second
 abbrev time : ℕ → Float

@@ -1,2 +1,3 @@
 -- The fit by phrase, as a call.
-pub mod Calls
+pub mod FitFile
+pub mod Parts

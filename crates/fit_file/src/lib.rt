@@ -3,11 +3,14 @@ ghost use mathlib.Core.Path.{_≡_};
 ghost use Prim.Native.Nat.{_≤_};
 ghost use lib.ListN.{length};
 ghost use Rattle.base.specs.Words.{words, spans};
-ghost use Rattle.calls.specs.Calls.{output};
-ghost use Rattle.fit_file.specs.Calls.{durationOf, workPlaces, fitFileCall, Unchanged};
+ghost use Rattle.word_calls.specs.Calls.{output};
+ghost use Rattle.fit_file.specs.FitFile.{durationOf, workPlaces, fitFileCall, Unchanged};
 use base::Rule;
-use checks::Answer;
+use limits::Answer;
 
+pub mod each_phrase;
+pub mod group;
+pub mod one_phrase;
 pub mod view;
 
 // Samples in a second.
@@ -38,13 +41,21 @@ pub fn fit_file_at(
     work_ends: &mut [f64],
     work_letters: &mut [u32],
 ) -> Answer
-    ensures { λ r. ⌜ (output r (words (now (starts .exit)) (now (ends .exit)) (now (letters .entry)) (now (units .entry)) (now (keys .entry))) ≡ fitFileCall (words (now (starts .entry)) (now (ends .entry)) (now (letters .entry)) (now (units .entry)) (now (keys .entry))) (now (phrases .entry)) (spans (now («span_starts» .entry)) (now («span_ends» .entry)) (now (counts .entry))) (now (levels .entry)) floor count (workPlaces (length (now («work_starts» .entry))) (length (now («work_ends» .entry))) (length (now («work_letters» .entry))))) × (Unchanged r (now («work_starts» .entry)) (now («work_starts» .exit)) × (Unchanged r (now («work_ends» .entry)) (now («work_ends» .exit)) × Unchanged r (now («work_letters» .entry)) (now («work_letters» .exit)))) ⌝ }
+    ensures { λ r.
+        let before = words (now (starts .entry)) (now (ends .entry)) (now (letters .entry)) (now (units .entry)) (now (keys .entry)) in
+        let after = words (now (starts .exit)) (now (ends .exit)) (now (letters .entry)) (now (units .entry)) (now (keys .entry)) in
+        let allSpans = spans (now («span_starts» .entry)) (now («span_ends» .entry)) (now (counts .entry)) in
+        let room = workPlaces (length (now («work_starts» .entry))) (length (now («work_ends» .entry))) (length (now («work_letters» .entry))) in
+        ⌜ (output r after ≡ fitFileCall before (now (phrases .entry)) allSpans (now (levels .entry)) floor count room)
+        × (Unchanged r (now («work_starts» .entry)) (now («work_starts» .exit))
+        × (Unchanged r (now («work_ends» .entry)) (now («work_ends» .exit))
+        × Unchanged r (now («work_letters» .entry)) (now («work_letters» .exit)))) ⌝ }
 {
     let places = base::least(
         work_starts.len(),
         base::least(work_ends.len(), work_letters.len()),
     );
-    let rule = calls::phrases_rule(
+    let rule = word_calls::phrases_rule(
         starts,
         ends,
         letters,
@@ -62,7 +73,7 @@ pub fn fit_file_at(
     match rule {
         Rule::Breaks(why) => Answer::Refused(why),
         Rule::Fine => {
-            fit_phrases::fit_phrases(
+            each_phrase::fit_phrases(
                 starts,
                 ends,
                 letters,

@@ -8,11 +8,9 @@ use Rattle.base.specs.Words.{Edges}
 use Rattle.base.proofs.Parts.{long, both}
 use Rattle.even.specs.Even.{evenOut}
 use Rattle.even.proofs.Turns.{even-long}
-use Rattle.fit_to_sound.specs.Fit.{fitToSound}
-use Rattle.fit_starts.specs.Fit.{putInOrder, moveToRise, clip}
-use Rattle.fit_ends.specs.Fit.{settleEnds}
-use Rattle.fit_starts.proofs.Kept.{order-long, rise-long, clip-long}
-use Rattle.fit_ends.proofs.Kept.{settle-long}
+use Rattle.fit_to_sound.specs.FitToSound.{fitToSound, putInOrder, moveToRise, clip, settleEnds}
+use Rattle.fit_to_sound.proofs.StartsKept.{order-long, rise-long, clip-long}
+use Rattle.fit_to_sound.proofs.EndsKept.{settle-long}
 
 -- ---- fitting keeps the lengths of both lists
 pub fit-long : (row : List Bool) (duration : Float) (letters : List ℕ) (es : Edges) → long (fitToSound row duration letters es) ≡ long es

@@ -7,9 +7,7 @@ use native.Mathlib.Omega.{arith}
 use lib.Ieee.{Float, inf}
 use Rattle.base.specs.Words.{Edges}
 use Rattle.even.specs.Even.{evenOut}
-use Rattle.fit_to_sound.specs.Fit.{fitToSound}
-use Rattle.fit_starts.specs.Fit.{putInOrder, moveToRise, clip}
-use Rattle.fit_ends.specs.Fit.{settleEnds}
+use Rattle.fit_to_sound.specs.FitToSound.{fitToSound, putInOrder, moveToRise, clip, settleEnds}
 
 -- ---- the steps one after the other
 pub fit-is : {limit : Float} {ordered risen placed evened settled fitted : Edges} (row : List Bool) (duration : Float) (letters : List ℕ) (es : Edges)

@@ -1,3 +1,3 @@
 -- Words fitted to their sound.
-pub mod Fit
-pub mod Calls
+pub mod FitToSound
+pub mod Parts

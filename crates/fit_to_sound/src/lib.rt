@@ -5,14 +5,15 @@ ghost use lib.ListN.{length};
 ghost use lib.Ieee.{inf};
 ghost use mathlib.Core.Bool.{false};
 ghost use Rattle.base.specs.Words.{words, edges};
-ghost use Rattle.envelope.specs.Levels.{loudRow};
-ghost use Rattle.calls.specs.Calls.{output};
-ghost use Rattle.fit_to_sound.specs.Fit.{fitToSound};
-ghost use Rattle.fit_to_sound.specs.Calls.{fitCall};
+ghost use Rattle.envelope.specs.Envelope.{loudRow};
+ghost use Rattle.word_calls.specs.Calls.{output};
+ghost use Rattle.fit_to_sound.specs.FitToSound.{fitToSound, fitCall};
 use base::Rule;
-use checks::Answer;
+use limits::Answer;
 
 pub mod view;
+pub mod word_ends;
+pub mod word_starts;
 
 // The bits of the f64 that no time is beyond.
 const INFINITY: u64 = 0x7ff0_0000_0000_0000;
@@ -33,14 +34,18 @@ pub fn fit_words(
     floor: f64,
     duration: f64,
 )
-    requires { ⌜ (length (now ends) ≡ length (now starts)) × ((length (now letters) ≡ length (now starts)) × ((length (now starts) ≤ 4096) × (length (now levels) ≤ 2 ^ 40))) ⌝ }
-    ensures { λ _. ⌜ edges (now (starts .exit)) (now (ends .exit)) ≡ fitToSound (loudRow floor (now (levels .entry))) duration (now (letters .entry)) (edges (now (starts .entry)) (now (ends .entry))) ⌝ }
+    requires { ⌜ (length (now ends) ≡ length (now starts))
+        × ((length (now letters) ≡ length (now starts)) × ((length (now starts) ≤ 4096) × (length (now levels) ≤ 2 ^ 40))) ⌝ }
+    ensures { λ _.
+        let before = edges (now (starts .entry)) (now (ends .entry)) in
+        let after = edges (now (starts .exit)) (now (ends .exit)) in
+        ⌜ after ≡ fitToSound (loudRow floor (now (levels .entry))) duration (now (letters .entry)) before ⌝ }
 {
-    fit_starts::put_in_order(starts, ends, duration);
-    fit_starts::move_to_rise(starts, ends, levels, floor);
-    fit_starts::clip(starts, ends);
+    word_starts::put_in_order(starts, ends, duration);
+    word_starts::move_to_rise(starts, ends, levels, floor);
+    word_starts::clip(starts, ends);
     even::even_words(starts, ends, letters, infinity());
-    fit_ends::settle_ends(starts, ends, letters, levels, floor, duration);
+    word_ends::settle_ends(starts, ends, letters, levels, floor, duration);
     even::even_words(starts, ends, letters, duration);
 }
 
@@ -56,9 +61,12 @@ pub fn fit_to_sound(
     count: usize,
     duration: f64,
 ) -> Answer
-    ensures { λ r. ⌜ output r (words (now (starts .exit)) (now (ends .exit)) (now (letters .entry)) (now (units .entry)) (now (keys .entry))) ≡ fitCall (words (now (starts .entry)) (now (ends .entry)) (now (letters .entry)) (now (units .entry)) (now (keys .entry))) (now (levels .entry)) floor count duration ⌝ }
+    ensures { λ r.
+        let before = words (now (starts .entry)) (now (ends .entry)) (now (letters .entry)) (now (units .entry)) (now (keys .entry)) in
+        let after = words (now (starts .exit)) (now (ends .exit)) (now (letters .entry)) (now (units .entry)) (now (keys .entry)) in
+        ⌜ output r after ≡ fitCall before (now (levels .entry)) floor count duration ⌝ }
 {
-    let rule = calls::timed_rule(
+    let rule = word_calls::timed_rule(
         starts,
         ends,
         letters,

@@ -1,10 +1,10 @@
 // Words fitted to their sound, from a recording's envelope.
 ghost use mathlib.Core.Path.{_≡_};
 ghost use Rattle.base.specs.Words.{words};
-ghost use Rattle.calls.specs.Calls.{output};
-ghost use Rattle.fit_to_sound.specs.Calls.{fitCall};
-use checks::Answer;
+ghost use Rattle.word_calls.specs.Calls.{output};
+ghost use Rattle.fit_to_sound.specs.FitToSound.{fitCall};
 use envelope::view::Envelope;
+use limits::Answer;
 
 // Fits words to the sound of the recording whose envelope is e (fit.rs, fit_to_sound).
 pub fn fit_to_sound<'a>(
@@ -16,7 +16,10 @@ pub fn fit_to_sound<'a>(
     keys: &[u32],
     duration: f64,
 ) -> Answer
-    ensures { λ r. ⌜ output r (words (now (starts .exit)) (now (ends .exit)) (now (letters .entry)) (now (units .entry)) (now (keys .entry))) ≡ fitCall (words (now (starts .entry)) (now (ends .entry)) (now (letters .entry)) (now (units .entry)) (now (keys .entry))) (now (e .entry .levels)) (e .entry .floor) (e .entry .count) duration ⌝ }
+    ensures { λ r.
+        let before = words (now (starts .entry)) (now (ends .entry)) (now (letters .entry)) (now (units .entry)) (now (keys .entry)) in
+        let after = words (now (starts .exit)) (now (ends .exit)) (now (letters .entry)) (now (units .entry)) (now (keys .entry)) in
+        ⌜ output r after ≡ fitCall before (now (e .entry .levels)) (e .entry .floor) (e .entry .count) duration ⌝ }
 {
     super::fit_to_sound(
         starts,

@@ -69,7 +69,7 @@ fn run_time(kind: u8, run: last_run::Run) -> f64 {
 fn is_run(kind: u8, levels: &[f64; 64], to: f64, r: u64) -> bool {
     let answer = last_run::last_run_at(levels, FLOOR, SAMPLES, 0.0, to);
     match answer {
-        last_run::Answer::Accepted(run) => rows::same(run_time(kind, run), r),
+        last_run::Answer::Accepted(run) => vector_rows::same(run_time(kind, run), r),
         last_run::Answer::Refused(_) => false,
     }
 }
@@ -92,8 +92,8 @@ fn is_fitted(kind: u8, levels: &[f64; 64], start: f64, r: u64) -> bool {
         DURATION,
     );
     match answer {
-        checks::Answer::Accepted => rows::same(asked(kind, starts[0], ends[0]), r),
-        checks::Answer::Refused(_) => false,
+        limits::Answer::Accepted => vector_rows::same(asked(kind, starts[0], ends[0]), r),
+        limits::Answer::Refused(_) => false,
     }
 }
 
@@ -127,15 +127,15 @@ fn is_filed(kind: u8, levels: &[f64; 64], start: f64, r: u64) -> bool {
         &mut work_letters,
     );
     match answer {
-        checks::Answer::Accepted => rows::same(asked(kind, starts[0], ends[0]), r),
-        checks::Answer::Refused(_) => false,
+        limits::Answer::Accepted => vector_rows::same(asked(kind, starts[0], ends[0]), r),
+        limits::Answer::Refused(_) => false,
     }
 }
 
 // Whether r is the answer for a time and a recording, for each kind of row.
 fn is_right(kind: u8, time: f64, loud: u64, r: u64) -> bool {
     let mut levels = [0.0; 64];
-    rows::set_levels(&mut levels, loud);
+    vector_rows::set_levels(&mut levels, loud);
     match kind {
         b'R' | b'Q' | b'X' => is_run(kind, &levels, time, r),
         b'I' | b'J' => is_fitted(kind, &levels, time, r),
@@ -155,15 +155,15 @@ fn add(tally: &mut [u64; 8], at: usize) {
 
 // Counts a row, and counts it as wrong where its answer is.
 fn judge(row: &[u8; 53], compared: &mut [u64; 8], wrong: &mut [u64; 8]) {
-    let a = rows::number(row, 2);
-    let b = rows::number(row, 19);
-    let r = rows::number(row, 36);
-    if (a.seen | b.seen | r.seen) > 15 || !rows::is_spaced(row) {
+    let a = vector_rows::number(row, 2);
+    let b = vector_rows::number(row, 19);
+    let r = vector_rows::number(row, 36);
+    if (a.seen | b.seen | r.seen) > 15 || !vector_rows::is_spaced(row) {
         add(compared, UNREADABLE);
         return;
     }
     add(compared, place(row[0]));
-    if !is_right(row[0], rows::float(a.bits), b.bits, r.bits) {
+    if !is_right(row[0], vector_rows::float(a.bits), b.bits, r.bits) {
         add(wrong, place(row[0]));
     }
 }

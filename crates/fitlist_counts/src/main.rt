@@ -1,4 +1,4 @@
 // A stored run of `fitlist`: a span of 4,097 words.
 fn main() {
-    job_input::run();
+    job_io::run();
 }

@@ -1,4 +1,4 @@
 // A stored run of `fitlist`: an empty job: nothing is printed.
 fn main() {
-    job_input::run();
+    job_io::run();
 }

@@ -1,4 +1,4 @@
 // A stored run of `fitlist`: a word without letters.
 fn main() {
-    job_input::run();
+    job_io::run();
 }

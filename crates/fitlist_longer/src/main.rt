@@ -1,4 +1,4 @@
 // A stored run of `fitlist`: a byte after the last body.
 fn main() {
-    job_input::run();
+    job_io::run();
 }

@@ -1,4 +1,4 @@
 // A stored run of `fitlist`: more words than a job may have.
 fn main() {
-    job_input::run();
+    job_io::run();
 }

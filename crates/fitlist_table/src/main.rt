@@ -1,4 +1,4 @@
 // A stored run of `fitlist`: a table that is not whole.
 fn main() {
-    job_input::run();
+    job_io::run();
 }

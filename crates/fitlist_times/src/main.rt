@@ -1,4 +1,4 @@
 // A stored run of `fitlist`: a time that is a NaN.
 fn main() {
-    job_input::run();
+    job_io::run();
 }

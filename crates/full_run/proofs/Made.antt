@@ -11,23 +11,20 @@ use Rattle.base.specs.Words.{Words, words, Spans, spans, count, part}
 use Rattle.base.specs.declared.Refusal.{Refusal}
 use Rattle.base.specs.declared.Rule.{Rule}
 use Rattle.base.specs.declared.Rule.the-variants.{Fine, Breaks}
-use Rattle.size_tests.specs.Limits.{otherLevels}
-use Rattle.checks.specs.declared.Applies.{Applies}
-use Rattle.checks.specs.Order.{chain}
-use Rattle.calls.specs.Calls.{ofWords, withLevels, withSpans, withPlaces}
-use Rattle.calls.proofs.Within.{one-length, letters-most}
-use Rattle.levels.specs.Levels.{hop, frames, levels}
-use Rattle.levels.proofs.Places.{length-levels, front-levels}
-use Rattle.floors.specs.Floors.{floor}
-use Rattle.envelope.specs.Levels.{loudRow, quietRow}
+use Rattle.limits.specs.Limits.{otherLevels}
+use Rattle.limits.specs.declared.Applies.{Applies}
+use Rattle.limits.specs.Order.{chain}
+use Rattle.word_calls.specs.Calls.{ofWords, withLevels, withSpans, withPlaces}
+use Rattle.word_calls.proofs.Within.{one-length, letters-most}
+use Rattle.envelope.specs.Envelope.{hop, frames, levels, floor, loudRow, quietRow}
+use Rattle.envelope.proofs.Places.{length-levels, front-levels}
 use Rattle.pieces.specs.Pieces.{need}
 use Rattle.pieces.specs.Parts.{startsOver, endsOver, Ready as PiecesReady}
-use Rattle.fit_file.specs.Calls.{workPlaces}
-use Rattle.run_rule.specs.Parts.{appliesTo}
-use Rattle.run_words.specs.Parts.{Ready, FewLetters}
-use Rattle.after_levels.specs.AfterLevels.{Run, runOn}
-use Rattle.after_levels.specs.Parts.{Running}
-use Rattle.after_levels.specs.declared.Outcome.{Outcome}
+use Rattle.fit_file.specs.FitFile.{workPlaces}
+use Rattle.full_run.specs.Parts.{appliesTo}
+use Rattle.run_stages.specs.Parts.{Ready, FewLetters, Running}
+use Rattle.run_stages.specs.Stages.{Run, runOn}
+use Rattle.run_stages.specs.declared.Outcome.{Outcome}
 use Rattle.full_run.specs.FullRun.{Input, input, runOf, withSamples, runApplies, output, accepted, fullRun}
 use Rattle.full_run.specs.declared.Report.{Report}
 use Rattle.full_run.specs.declared.Answer.{Answer}

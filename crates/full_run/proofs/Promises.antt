@@ -16,14 +16,13 @@ use Rattle.base.specs.declared.Refusal.the-variants.{Levels, Cut}
 use Rattle.base.specs.declared.Rule.{Rule}
 use Rattle.base.specs.declared.Rule.the-variants.{Fine, Breaks}
 use Rattle.base.proofs.First.{None, First, first-skip, first-here, fine-none, none-fine, breaks-first, first-breaks}
-use Rattle.size_tests.specs.Limits.{otherLevels}
-use Rattle.checks.specs.declared.Applies.{Applies}
-use Rattle.checks.specs.Order.{inOrder, chain}
-use Rattle.calls.specs.Calls.{ofWords, withSpans, withPlaces}
-use Rattle.calls.proofs.Within.{WordsWithin, SpansWithin, words-exactly, spans-exactly, places-exactly}
-use Rattle.levels.specs.Levels.{frames, levels}
-use Rattle.levels.proofs.Places.{length-levels}
-use Rattle.envelope.specs.Levels.{quietRow}
+use Rattle.limits.specs.Limits.{otherLevels}
+use Rattle.limits.specs.declared.Applies.{Applies}
+use Rattle.limits.specs.Order.{inOrder, chain}
+use Rattle.word_calls.specs.Calls.{ofWords, withSpans, withPlaces}
+use Rattle.word_calls.proofs.Within.{WordsWithin, SpansWithin, words-exactly, spans-exactly, places-exactly}
+use Rattle.envelope.specs.Envelope.{frames, levels, quietRow}
+use Rattle.envelope.proofs.Places.{length-levels}
 use Rattle.pieces.specs.Pieces.{need, walked}
 use Rattle.pieces.proofs.Walk.{never-stuck}
 use Rattle.full_run.specs.FullRun.{Input, runOf, withSamples, runApplies, Output, output, accepted, byRule, fullRun}

@@ -8,15 +8,13 @@ use lib.Ieee.{Float}
 use Rattle.base.specs.Words.{Words, Spans, count, wordsInPlaces}
 use Rattle.base.specs.declared.Rule.{Rule}
 use Rattle.base.specs.declared.Rule.the-variants.{Fine, Breaks}
-use Rattle.size_tests.specs.Limits.{manySamples}
-use Rattle.checks.specs.declared.Applies.{Applies}
-use Rattle.checks.specs.Order.{chain}
-use Rattle.calls.specs.Calls.{ofWords, withSpans, withPlaces}
-use Rattle.levels.specs.Levels.{frames, levels}
-use Rattle.floors.specs.Floors.{floor}
-use Rattle.envelope.specs.Levels.{loudRow, quietRow}
+use Rattle.limits.specs.Limits.{manySamples}
+use Rattle.limits.specs.declared.Applies.{Applies}
+use Rattle.limits.specs.Order.{chain}
+use Rattle.word_calls.specs.Calls.{ofWords, withSpans, withPlaces}
+use Rattle.envelope.specs.Envelope.{frames, levels, floor, loudRow, quietRow}
 use Rattle.pieces.specs.Pieces.{need, over}
-use Rattle.after_levels.specs.AfterLevels.{Run, runOn}
+use Rattle.run_stages.specs.Stages.{Run, runOn}
 use Rattle.full_run.specs.declared.Report.{Report}
 use Rattle.full_run.specs.declared.Answer.{Answer}
 use Rattle.full_run.specs.declared.Answer.the-variants.{Accepted, Refused}

@@ -1,2 +1,3 @@
 -- The full run.
 pub mod FullRun
+pub mod Parts

@@ -4,12 +4,14 @@ ghost use mathlib.Core.List.{_++_};
 ghost use Prim.Native.Nat.{_≤_};
 ghost use lib.ListN.{length, drop};
 ghost use Rattle.base.specs.Words.{words, spans};
-ghost use Rattle.levels.specs.Levels.{frames, levels as levelsOf};
-ghost use Rattle.floors.specs.Floors.{floor as floorOf};
-ghost use Rattle.fit_file.specs.Calls.{workPlaces};
+ghost use Rattle.envelope.specs.Envelope.{frames, levels as levelsOf, floor as floorOf};
+ghost use Rattle.fit_file.specs.FitFile.{workPlaces};
 ghost use Rattle.full_run.specs.FullRun.{input, output, fullRun, Unchanged};
 use base::Refusal;
 use base::Rule;
+
+pub mod heard;
+pub mod rule;
 
 // Samples in a frame.
 const HOP: usize = 160;
@@ -31,11 +33,14 @@ pub enum Answer {
 // The levels of a recording, and the floor under them.
 fn hear(samples: &[f32], levels: &mut [f64]) -> f64
     requires { ⌜ (length (now samples) ≤ 57600000) × (frames (now samples) ≤ length (now levels)) ⌝ }
-    ensures { λ r. ⌜ (now (levels .exit) ≡ levelsOf (now (samples .entry)) ++ drop (frames (now (samples .entry))) (now (levels .entry))) × (r ≡ floorOf (levelsOf (now (samples .entry)))) ⌝ }
+    ensures { λ r.
+        ⌜ (now (levels .exit)
+        ≡ levelsOf (now (samples .entry)) ++ drop (frames (now (samples .entry))) (now (levels .entry)))
+        × (r ≡ floorOf (levelsOf (now (samples .entry)))) ⌝ }
 {
-    levels::fill(samples, levels);
+    envelope::level::fill(samples, levels);
     let n = samples.len() / HOP;
-    floors::floor_of(&levels[0..n])
+    envelope::floor::floor_of(&levels[0..n])
 }
 
 // Finds the pieces of a recording and where each of its words begins and ends (document 01, "Full run").
@@ -57,9 +62,20 @@ pub fn full_run(
     work_ends: &mut [f64],
     work_letters: &mut [u32],
 ) -> Answer
-    ensures { λ r. ⌜ (output r (words (now (starts .exit)) (now (ends .exit)) (now (letters .exit)) (now (units .exit)) (now (keys .exit))) (now (phrases .exit)) (now (levels .exit)) (now («piece_starts» .exit)) (now («piece_ends» .exit)) ≡ fullRun (input (now (samples .entry)) (words (now (starts .entry)) (now (ends .entry)) (now (letters .entry)) (now (units .entry)) (now (keys .entry))) (spans (now («span_starts» .entry)) (now («span_ends» .entry)) (now (counts .entry))) (now (phrases .entry)) (now (levels .entry)) (now («piece_starts» .entry)) (now («piece_ends» .entry)) (workPlaces (length (now («work_starts» .entry))) (length (now («work_ends» .entry))) (length (now («work_letters» .entry)))))) × (Unchanged r (now («work_starts» .entry)) (now («work_starts» .exit)) × (Unchanged r (now («work_ends» .entry)) (now («work_ends» .exit)) × Unchanged r (now («work_letters» .entry)) (now («work_letters» .exit)))) ⌝ }
+    ensures { λ r.
+        let before = words (now (starts .entry)) (now (ends .entry)) (now (letters .entry)) (now (units .entry)) (now (keys .entry)) in
+        let after = words (now (starts .exit)) (now (ends .exit)) (now (letters .exit)) (now (units .exit)) (now (keys .exit)) in
+        let allSpans = spans (now («span_starts» .entry)) (now («span_ends» .entry)) (now (counts .entry)) in
+        let room = workPlaces (length (now («work_starts» .entry))) (length (now («work_ends» .entry))) (length (now («work_letters» .entry))) in
+        ⌜ (output r after (now (phrases .exit)) (now (levels .exit)) (now («piece_starts» .exit)) (now («piece_ends» .exit))
+        ≡ fullRun
+        (input (now (samples .entry)) before allSpans (now (phrases .entry)) (now (levels .entry))
+        (now («piece_starts» .entry)) (now («piece_ends» .entry)) room))
+        × (Unchanged r (now («work_starts» .entry)) (now («work_starts» .exit))
+        × (Unchanged r (now («work_ends» .entry)) (now («work_ends» .exit))
+        × Unchanged r (now («work_letters» .entry)) (now («work_letters» .exit)))) ⌝ }
 {
-    let rule = run_rule::judge(
+    let rule = rule::judge(
         samples.len(),
         starts,
         ends,
@@ -82,7 +98,7 @@ pub fn full_run(
         Rule::Fine => {
             let floor = hear(samples, levels);
             let n = samples.len() / HOP;
-            let out = after_levels::after_levels(
+            let out = run_stages::after_levels(
                 &levels[0..n],
                 floor,
                 samples.len(),

@@ -13,11 +13,9 @@ use Rattle.base.specs.Loop.{each}
 use Rattle.base.specs.Words.{Edges, edges, timesAt}
 use Rattle.base.specs.declared.Times.{Times}
 use Rattle.base.proofs.Parts.{long, both}
-use Rattle.groups.specs.Groups.{membersOf, picked, pickedEdges, putEdges}
-use Rattle.groups.proofs.Local.{put-own, put-other, put-stays, put-long}
-use Rattle.fit_group.specs.FitGroup.{fitGroup}
-use Rattle.fit_group.proofs.Kept.{group-long}
-use Rattle.fit_phrases.specs.FitPhrases.{fitPhrase, fitFile}
+use Rattle.fit_file.specs.FitFile.{membersOf, picked, pickedEdges, putEdges, fitGroup, fitPhrase, fitFile}
+use Rattle.fit_file.proofs.Local.{put-own, put-other, put-stays, put-long}
+use Rattle.fit_file.proofs.Kept.{group-long}
 
 -- ---- a group of words, fitted alone; no words stay no words
 unfoldable pub fitAlone : List Bool → Float → Times → List ℕ → List ℕ → Edges → Edges

@@ -9,12 +9,11 @@ use lib.IntN.{ℤ}
 use lib.ListN.{length, getD}
 use lib.Ieee.{Float}
 use Rattle.base.specs.Words.{Words, Spans}
-use Rattle.levels.specs.Levels.{levels}
-use Rattle.floors.specs.Floors.{floor}
-use Rattle.checks.specs.declared.Answer.{Answer}
-use Rattle.checks.specs.declared.Answer.the-variants.{Accepted}
-use Rattle.calls.specs.Calls.{output}
-use Rattle.fit_file.specs.Calls.{fitFileCall}
+use Rattle.envelope.specs.Envelope.{levels, floor}
+use Rattle.limits.specs.declared.Answer.{Answer}
+use Rattle.limits.specs.declared.Answer.the-variants.{Accepted}
+use Rattle.word_calls.specs.Calls.{output}
+use Rattle.fit_file.specs.FitFile.{fitFileCall}
 use Rattle.full_run.specs.FullRun as run
 use Rattle.full_run.specs.FullRun.{Input, fullRun}
 use Rattle.full_run.specs.declared.Report.{Report}

@@ -12,9 +12,7 @@ use lib.Ieee.{Float, inf, fin, ofBits, add, mul, div, lt, eq, le, fits, isNan}
 use Rattle.base.specs.Loop.{fold, table}
 use Rattle.js.specs.Js.{under, jsMax}
 use Rattle.roots.specs.Sqrt.{sqrt}
-use Rattle.levels.specs.Levels.{squares, level, frame, levels}
-use Rattle.floors.specs.Floors.{peak, floor}
-use Rattle.envelope.specs.Levels.{loudRow, quietRow}
+use Rattle.envelope.specs.Envelope.{squares, level, frame, levels, peak, floor, loudRow, quietRow}
 use Rattle.invariance.specs.Scaled.{Scaled, Sampled, none, next, Recorded, Loudest}
 use Rattle.invariance.proofs.Rows.{rows-alike}
 

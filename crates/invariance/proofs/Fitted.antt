@@ -14,27 +14,17 @@ use Rattle.base.specs.Words.{Words, words, Spans, spans, partEdges, onPart}
 use Rattle.base.specs.Loop.{each, fold, run, runBack, up, down}
 use Rattle.js.specs.Js.{under, jsMin, jsMax}
 use Rattle.frames.specs.Frames.{floorI64, frameAt, frameFromZero, frameSeconds}
-use Rattle.levels.specs.Levels.{levels}
-use Rattle.floors.specs.Floors.{peak, floor}
-use Rattle.envelope.specs.Levels.{loudRow}
-use Rattle.checks.specs.Limits.{any}
-use Rattle.time_tests.specs.Limits.{timeOf}
-use Rattle.checks.specs.Order.{inOrder, chain}
-use Rattle.checks.specs.declared.Answer.the-variants.{Accepted}
-use Rattle.calls.specs.Calls.{uneven, ofWords, withLevels, withList, unevenSpans, manySpans, withSpans, withPlaces, phrasesRule, Output, output}
+use Rattle.envelope.specs.Envelope.{levels, peak, floor, loudRow}
+use Rattle.limits.specs.Limits.{any, timeOf}
+use Rattle.limits.specs.Order.{inOrder, chain}
+use Rattle.limits.specs.declared.Answer.the-variants.{Accepted}
+use Rattle.word_calls.specs.Calls.{uneven, ofWords, withLevels, withList, unevenSpans, manySpans, withSpans, withPlaces, phrasesRule, Output, output}
 use Rattle.share.specs.Share as shares
-use Rattle.word_end.specs.Ends.{nextStart, orDuration}
-use Rattle.sounds.specs.Ends.{lastLoud, soundEnd}
-use Rattle.stretches.specs.Even as stretches
+use Rattle.ends.specs.Ends.{nextStart, orDuration, lastLoud, soundEnd}
 use Rattle.even.specs.Even as even
-use Rattle.groups.specs.Groups.{memberTurn, membersOf, picked, pickedEdges, putBack, putEdges}
+use Rattle.fit_file.specs.FitFile.{memberTurn, membersOf, picked, pickedEdges, putBack, putEdges, insideSpan, insideTurn, keepInside, takeRun, takeTrailing, fitGroup, fitPhrase, fitFile, durationOf, fitFileCall}
 use Rattle.last_run.specs.LastRun.{endsBetween, framesOf, frameRun, lastRun}
-use Rattle.fit_starts.specs.Fit.{stepStart, inOrder as endInOrder, orderTurn, putInOrder, riseOf, riseTurnOf, moveToRise, clip}
-use Rattle.fit_ends.specs.Fit.{soundEndIn, cutBack, lastsTo, endedBy, endOf, endTurn, settleEnds}
-use Rattle.fit_to_sound.specs.Fit.{fitToSound}
-use Rattle.fit_group.specs.FitGroup.{insideSpan, insideTurn, keepInside, takeRun, takeTrailing, fitGroup}
-use Rattle.fit_phrases.specs.FitPhrases.{fitPhrase, fitFile}
-use Rattle.fit_file.specs.Calls.{durationOf, fitFileCall}
+use Rattle.fit_to_sound.specs.FitToSound.{stepStart, inOrder as endInOrder, orderTurn, putInOrder, riseOf, riseTurnOf, moveToRise, clip, soundEndIn, cutBack, lastsTo, endedBy, endOf, endTurn, settleEnds, fitToSound}
 use Rattle.invariance.specs.Alike.{wordAt, GivenAlike}
 use Rattle.invariance.proofs.Example.{half, plusZero, recording, multiplied, recording-long, multiplied-long, recording-levels, multiplied-levels, recorded, reached}
 use Rattle.invariance.proofs.Phrases.{phrase-scaled}
@@ -73,11 +63,11 @@ abbrev call : Words → Spans → List Float → ℕ → ℕ → Output
 call ws sp ls samples places = fitFileCall ws numbers sp ls (floor ls) samples places
 
 first-computed : call (pair second zero-s quarter) (two-spans half-s) (half ∷ (plusZero ∷ [])) 320 2 ≡ output Accepted (pair fitted zero-s fitted)
-unfolding fitFileCall phrasesRule chain inOrder ofWords withLevels withList withSpans withPlaces uneven unevenSpans manySpans first any timeOf loudRow fitFile fitPhrase durationOf membersOf memberTurn picked pickedEdges putEdges putBack fitGroup keepInside insideTurn insideSpan takeTrailing takeRun lastRun frameRun framesOf endsBetween runBack fitToSound putInOrder orderTurn stepStart endInOrder moveToRise riseTurnOf riseOf clip even.evenOut even.evenTurn stretches.crushed stretches.swollen stretches.firstCrushed stretches.withSwollen stretches.lastCrushed stretches.grown stretches.ceilingOf stretches.borrows stretches.borrowed stretches.endOf stretches.stretchOf even.evenRun stretches.sum shares.share shares.sum partEdges onPart settleEnds endTurn endOf endedBy cutBack lastsTo soundEndIn nextStart orDuration soundEnd lastLoud each run up down frameFromZero frameAt floorI64 frameSeconds jsMin jsMax under isNan fold peak floor add sub neg sum mul div lt le eq ofInt round size span climb units odd ofBits ofFields trailingZeros
+unfolding fitFileCall phrasesRule chain inOrder ofWords withLevels withList withSpans withPlaces uneven unevenSpans manySpans first any timeOf loudRow fitFile fitPhrase durationOf membersOf memberTurn picked pickedEdges putEdges putBack fitGroup keepInside insideTurn insideSpan takeTrailing takeRun lastRun frameRun framesOf endsBetween runBack fitToSound putInOrder orderTurn stepStart endInOrder moveToRise riseTurnOf riseOf clip even.evenOut even.evenTurn even.crushed even.swollen even.firstCrushed even.withSwollen even.lastCrushed even.grown even.ceilingOf even.borrows even.borrowed even.endOf even.stretchOf even.evenRun even.sum shares.share shares.sum partEdges onPart settleEnds endTurn endOf endedBy cutBack lastsTo soundEndIn nextStart orDuration soundEnd lastLoud each run up down frameFromZero frameAt floorI64 frameSeconds jsMin jsMax under isNan fold peak floor add sub neg sum mul div lt le eq ofInt round size span climb units odd ofBits ofFields trailingZeros
 first-computed = refl
 
 second-computed : call (pair second eighth quarter) (two-spans quarter) (fin false 1 (pos 1) ∷ (plusZero ∷ [])) 320 9 ≡ output Accepted (pair fitted eighth quarter)
-unfolding fitFileCall phrasesRule chain inOrder ofWords withLevels withList withSpans withPlaces uneven unevenSpans manySpans first any timeOf loudRow fitFile fitPhrase durationOf membersOf memberTurn picked pickedEdges putEdges putBack fitGroup keepInside insideTurn insideSpan takeTrailing takeRun lastRun frameRun framesOf endsBetween runBack fitToSound putInOrder orderTurn stepStart endInOrder moveToRise riseTurnOf riseOf clip even.evenOut even.evenTurn stretches.crushed stretches.swollen stretches.firstCrushed stretches.withSwollen stretches.lastCrushed stretches.grown stretches.ceilingOf stretches.borrows stretches.borrowed stretches.endOf stretches.stretchOf even.evenRun stretches.sum shares.share shares.sum partEdges onPart settleEnds endTurn endOf endedBy cutBack lastsTo soundEndIn nextStart orDuration soundEnd lastLoud each run up down frameFromZero frameAt floorI64 frameSeconds jsMin jsMax under isNan fold peak floor add sub neg sum mul div lt le eq ofInt round size span climb units odd ofBits ofFields trailingZeros
+unfolding fitFileCall phrasesRule chain inOrder ofWords withLevels withList withSpans withPlaces uneven unevenSpans manySpans first any timeOf loudRow fitFile fitPhrase durationOf membersOf memberTurn picked pickedEdges putEdges putBack fitGroup keepInside insideTurn insideSpan takeTrailing takeRun lastRun frameRun framesOf endsBetween runBack fitToSound putInOrder orderTurn stepStart endInOrder moveToRise riseTurnOf riseOf clip even.evenOut even.evenTurn even.crushed even.swollen even.firstCrushed even.withSwollen even.lastCrushed even.grown even.ceilingOf even.borrows even.borrowed even.endOf even.stretchOf even.evenRun even.sum shares.share shares.sum partEdges onPart settleEnds endTurn endOf endedBy cutBack lastsTo soundEndIn nextStart orDuration soundEnd lastLoud each run up down frameFromZero frameAt floorI64 frameSeconds jsMin jsMax under isNan fold peak floor add sub neg sum mul div lt le eq ofInt round size span climb units odd ofBits ofFields trailingZeros
 second-computed = refl
 
 first-fit : call (pair second zero-s quarter) (two-spans half-s) (levels recording) (length recording) 2 ≡ output Accepted (pair fitted zero-s fitted)

@@ -13,8 +13,7 @@ use lib.Ieee.Bits.{ofBits-fits}
 use Rattle.base.specs.Loop.{fold}
 use Rattle.base.proofs.Values.{fraction}
 use Rattle.js.specs.Js.{jsMax}
-use Rattle.levels.specs.Levels.{zeroF}
-use Rattle.floors.specs.Floors.{minPeak, hundredth, peak, floor}
+use Rattle.envelope.specs.Envelope.{zeroF, minPeak, hundredth, peak, floor}
 use Rattle.invariance.specs.Scaled.{Pairwise, none, next, LimitReached}
 use Rattle.invariance.proofs.Twin.{Holds, Twin, twin-mul}
 use Rattle.invariance.proofs.Compare.{le-units, max-holds}

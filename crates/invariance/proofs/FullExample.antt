@@ -13,38 +13,25 @@ use Rattle.base.specs.Words.{Words, words, Spans, spans, partEdges, onPart, wor
 use Rattle.base.specs.Loop.{each, fold, run, runBack, up, down}
 use Rattle.js.specs.Js.{under, jsMin, jsMax}
 use Rattle.frames.specs.Frames.{floorI64, ceilI64, frameAt, frameCeil, frameFromZero, frameSeconds}
-use Rattle.levels.specs.Levels.{levels}
-use Rattle.floors.specs.Floors.{peak, floor}
-use Rattle.envelope.specs.Levels.{loudRow, quietRow}
-use Rattle.checks.specs.Limits.{any}
-use Rattle.checks.specs.Order.{inOrder, chain}
-use Rattle.time_tests.specs.Limits.{timeOf}
-use Rattle.calls.specs.Calls.{uneven, ofWords, unevenSpans, manySpans, withSpans, withPlaces}
+use Rattle.envelope.specs.Envelope.{levels, peak, floor, loudRow, quietRow}
+use Rattle.limits.specs.Limits.{any, timeOf}
+use Rattle.limits.specs.Order.{inOrder, chain}
+use Rattle.word_calls.specs.Calls.{uneven, ofWords, unevenSpans, manySpans, withSpans, withPlaces}
 use Rattle.pieces.specs.Pieces.{pieceTurn, walked, pieces, need, over}
-use Rattle.copies.specs.Loops.{equal, same, copiesEnd, isLoop}
-use Rattle.passes.specs.Loops.{loopTurn, pass, collapseLoops}
+use Rattle.loops.specs.Loops.{equal, same, copiesEnd, isLoop, loopTurn, pass, collapseLoops}
 use Rattle.tails.specs.Tails.{tailTurn, handBackTails}
 use Rattle.onsets.specs.Onsets.{onsetFrame, onsetOf, prevEnd, onsetTurn, snapOnsets}
-use Rattle.sounds.specs.Ends.{lastLoud, soundEnd}
-use Rattle.word_end.specs.Ends as word
-use Rattle.ends.specs.Ends as snap
-use Rattle.inside.specs.Spread.{inside, firstInside, lastInside}
-use Rattle.spreads.specs.Spread.{spreadBefore, spreadAfter}
-use Rattle.spread.specs.Spread.{betweenTurn, placeBetween, placeGroup}
-use Rattle.phrases.specs.PhraseAlign.{groupOf, extend, placedIn, placeTurn, alignPhrases, inTheirPlaces}
+use Rattle.ends.specs.Ends.{lastLoud, soundEnd}
+use Rattle.ends.specs.Ends as word
+use Rattle.spread.specs.Spread.{inside, firstInside, lastInside, spreadBefore, spreadAfter, betweenTurn, placeBetween, placeGroup}
+use Rattle.phrase_align.specs.PhraseAlign.{groupOf, extend, placedIn, placeTurn, alignPhrases, inTheirPlaces}
 use Rattle.share.specs.Share as shares
-use Rattle.stretches.specs.Even as stretches
 use Rattle.even.specs.Even as even
-use Rattle.groups.specs.Groups.{memberTurn, membersOf, picked, pickedEdges, putBack, putEdges}
+use Rattle.fit_file.specs.FitFile.{memberTurn, membersOf, picked, pickedEdges, putBack, putEdges, insideSpan, insideTurn, keepInside, takeRun, takeTrailing, fitGroup, fitPhrase, fitFile, durationOf}
 use Rattle.last_run.specs.LastRun.{endsBetween, framesOf, frameRun, lastRun}
-use Rattle.fit_starts.specs.Fit as starts
-use Rattle.fit_ends.specs.Fit as fits
-use Rattle.fit_to_sound.specs.Fit.{fitToSound}
-use Rattle.fit_group.specs.FitGroup.{insideSpan, insideTurn, keepInside, takeRun, takeTrailing, fitGroup}
-use Rattle.fit_phrases.specs.FitPhrases.{fitPhrase, fitFile}
-use Rattle.fit_file.specs.Calls.{durationOf}
-use Rattle.run_words.specs.Stages.{snapped, byPhrase, settled}
-use Rattle.after_levels.specs.AfterLevels.{Run, runOn}
+use Rattle.fit_to_sound.specs.FitToSound as starts
+use Rattle.fit_to_sound.specs.FitToSound.{fitToSound}
+use Rattle.run_stages.specs.Stages.{snapped, byPhrase, settled, Run, runOn}
 use Rattle.full_run.specs.FullRun.{Input, runOf, withSamples, runApplies, Output, output, reportOf, fullRun}
 use Rattle.full_run.specs.declared.Report.{Report}
 use Rattle.full_run.specs.declared.Answer.the-variants.{Accepted}
@@ -112,11 +99,11 @@ abbrev second-report : Report
 second-report = report (ofBits binary64 0x3f94_7ae1_47ae_147b)
 
 first-computed : left (half ∷ (plusZero ∷ [])) 320 (nan ∷ nan ∷ []) (7 ∷ []) (7 ∷ []) ≡ output (Accepted first-report) one-word (0 ∷ 8 ∷ 9 ∷ []) (half ∷ plusZero ∷ []) (0 ∷ []) (320 ∷ [])
-unfolding runOn snapped settled byPhrase durationOf wordsInPlaces loudRow quietRow pieces walked pieceTurn collapseLoops pass loopTurn isLoop same equal copiesEnd handBackTails tailTurn snapOnsets onsetTurn prevEnd onsetOf onsetFrame snap.snapEnds snap.endTurn word.isPair word.endOf word.trimmed word.reach word.nextStart word.orDuration soundEnd lastLoud alignPhrases placeTurn groupOf placedIn extend inTheirPlaces placeGroup inside firstInside lastInside spreadBefore spreadAfter placeBetween betweenTurn fitFile fitPhrase membersOf memberTurn picked pickedEdges putEdges putBack fitGroup keepInside insideTurn insideSpan takeTrailing takeRun lastRun frameRun framesOf endsBetween fitToSound starts.putInOrder starts.orderTurn starts.stepStart starts.inOrder starts.moveToRise starts.riseTurnOf starts.riseOf starts.clip even.evenOut even.evenTurn even.evenRun stretches.crushed stretches.swollen stretches.firstCrushed stretches.withSwollen stretches.lastCrushed stretches.grown stretches.ceilingOf stretches.borrows stretches.borrowed stretches.endOf stretches.stretchOf stretches.sum shares.share shares.sum partEdges onPart fits.settleEnds fits.endTurn fits.endOf fits.endedBy fits.cutBack fits.lastsTo fits.soundEndIn each run runBack up down fold peak floor frameFromZero frameAt frameCeil floorI64 ceilI64 frameSeconds jsMin jsMax under isNan add sub neg sum mul div lt le eq ofInt round size span climb units odd ofBits ofFields trailingZeros
+unfolding runOn snapped settled byPhrase durationOf wordsInPlaces loudRow quietRow pieces walked pieceTurn collapseLoops pass loopTurn isLoop same equal copiesEnd handBackTails tailTurn snapOnsets onsetTurn prevEnd onsetOf onsetFrame word.snapEnds word.endTurn word.isPair word.endOf word.trimmed word.reach word.nextStart word.orDuration soundEnd lastLoud alignPhrases placeTurn groupOf placedIn extend inTheirPlaces placeGroup inside firstInside lastInside spreadBefore spreadAfter placeBetween betweenTurn fitFile fitPhrase membersOf memberTurn picked pickedEdges putEdges putBack fitGroup keepInside insideTurn insideSpan takeTrailing takeRun lastRun frameRun framesOf endsBetween fitToSound starts.putInOrder starts.orderTurn starts.stepStart starts.inOrder starts.moveToRise starts.riseTurnOf starts.riseOf starts.clip even.evenOut even.evenTurn even.evenRun even.crushed even.swollen even.firstCrushed even.withSwollen even.lastCrushed even.grown even.ceilingOf even.borrows even.borrowed even.endOf even.stretchOf even.sum shares.share shares.sum partEdges onPart starts.settleEnds starts.endTurn starts.endOf starts.endedBy starts.cutBack starts.lastsTo starts.soundEndIn each run runBack up down fold peak floor frameFromZero frameAt frameCeil floorI64 ceilI64 frameSeconds jsMin jsMax under isNan add sub neg sum mul div lt le eq ofInt round size span climb units odd ofBits ofFields trailingZeros
 first-computed = refl
 
 second-computed : left (two ∷ (plusZero ∷ [])) 320 (half-s ∷ half-s ∷ half-s ∷ []) (5 ∷ 6 ∷ []) (5 ∷ 6 ∷ []) ≡ output (Accepted second-report) one-word (0 ∷ 8 ∷ 9 ∷ []) (two ∷ plusZero ∷ half-s ∷ []) (0 ∷ 6 ∷ []) (320 ∷ 6 ∷ [])
-unfolding runOn snapped settled byPhrase durationOf wordsInPlaces loudRow quietRow pieces walked pieceTurn collapseLoops pass loopTurn isLoop same equal copiesEnd handBackTails tailTurn snapOnsets onsetTurn prevEnd onsetOf onsetFrame snap.snapEnds snap.endTurn word.isPair word.endOf word.trimmed word.reach word.nextStart word.orDuration soundEnd lastLoud alignPhrases placeTurn groupOf placedIn extend inTheirPlaces placeGroup inside firstInside lastInside spreadBefore spreadAfter placeBetween betweenTurn fitFile fitPhrase membersOf memberTurn picked pickedEdges putEdges putBack fitGroup keepInside insideTurn insideSpan takeTrailing takeRun lastRun frameRun framesOf endsBetween fitToSound starts.putInOrder starts.orderTurn starts.stepStart starts.inOrder starts.moveToRise starts.riseTurnOf starts.riseOf starts.clip even.evenOut even.evenTurn even.evenRun stretches.crushed stretches.swollen stretches.firstCrushed stretches.withSwollen stretches.lastCrushed stretches.grown stretches.ceilingOf stretches.borrows stretches.borrowed stretches.endOf stretches.stretchOf stretches.sum shares.share shares.sum partEdges onPart fits.settleEnds fits.endTurn fits.endOf fits.endedBy fits.cutBack fits.lastsTo fits.soundEndIn each run runBack up down fold peak floor frameFromZero frameAt frameCeil floorI64 ceilI64 frameSeconds jsMin jsMax under isNan add sub neg sum mul div lt le eq ofInt round size span climb units odd ofBits ofFields trailingZeros
+unfolding runOn snapped settled byPhrase durationOf wordsInPlaces loudRow quietRow pieces walked pieceTurn collapseLoops pass loopTurn isLoop same equal copiesEnd handBackTails tailTurn snapOnsets onsetTurn prevEnd onsetOf onsetFrame word.snapEnds word.endTurn word.isPair word.endOf word.trimmed word.reach word.nextStart word.orDuration soundEnd lastLoud alignPhrases placeTurn groupOf placedIn extend inTheirPlaces placeGroup inside firstInside lastInside spreadBefore spreadAfter placeBetween betweenTurn fitFile fitPhrase membersOf memberTurn picked pickedEdges putEdges putBack fitGroup keepInside insideTurn insideSpan takeTrailing takeRun lastRun frameRun framesOf endsBetween fitToSound starts.putInOrder starts.orderTurn starts.stepStart starts.inOrder starts.moveToRise starts.riseTurnOf starts.riseOf starts.clip even.evenOut even.evenTurn even.evenRun even.crushed even.swollen even.firstCrushed even.withSwollen even.lastCrushed even.grown even.ceilingOf even.borrows even.borrowed even.endOf even.stretchOf even.sum shares.share shares.sum partEdges onPart starts.settleEnds starts.endTurn starts.endOf starts.endedBy starts.cutBack starts.lastsTo starts.soundEndIn each run runBack up down fold peak floor frameFromZero frameAt frameCeil floorI64 ceilI64 frameSeconds jsMin jsMax under isNan add sub neg sum mul div lt le eq ofInt round size span climb units odd ofBits ofFields trailingZeros
 second-computed = refl
 
 by-levels-1 : fullRun first-given ≡ left (levels recording) (length recording) (nan ∷ nan ∷ []) (7 ∷ []) (7 ∷ [])

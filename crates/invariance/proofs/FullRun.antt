@@ -9,10 +9,9 @@ use lib.IntN.{ℤ}
 use lib.ListN.{length, getD, length-map, List·getD-append}
 use lib.Ieee.{Float}
 use Rattle.base.specs.Words.{Words, count, wordsInPlaces}
-use Rattle.levels.specs.Levels.{levels}
-use Rattle.floors.specs.Floors.{floor}
+use Rattle.envelope.specs.Envelope.{levels, floor}
 use Rattle.pieces.specs.Pieces.{Piece, over}
-use Rattle.after_levels.specs.AfterLevels.{Run}
+use Rattle.run_stages.specs.Stages.{Run}
 use Rattle.full_run.specs.FullRun.{Input, runOf, Output, reportOf, accepted, fullRun}
 use Rattle.full_run.specs.declared.Report.{Report}
 use Rattle.full_run.specs.declared.Answer.the-variants.{Accepted}

@@ -8,8 +8,7 @@ use Prim.Native.Nat.{ℕ, _*_, _^_}
 use lib.Ieee.{Float, nan, inf, fin, binary64, add, mul, lt, eq, le, isNan, ofBits}
 use Rattle.base.specs.Loop.{fold}
 use Rattle.js.specs.Js.{under, jsMax}
-use Rattle.floors.specs.Floors.{minPeak, hundredth, peak, floor}
-use Rattle.envelope.specs.Levels.{loudRow, quietRow}
+use Rattle.envelope.specs.Envelope.{minPeak, hundredth, peak, floor, loudRow, quietRow}
 use Rattle.invariance.specs.Scaled.{Pairwise, none, next}
 use Rattle.invariance.proofs.Lists.{pairwise-tests}
 use Rattle.invariance.proofs.Twin.{Holds, Twin}

@@ -15,7 +15,7 @@ use lib.Ieee.{Float, inf, Format, binary64, mul, div, fits, ofBits}
 use Rattle.base.specs.Loop.{fold}
 use Rattle.base.proofs.Values.{whole-value}
 use Rattle.roots.specs.Sqrt.{sqrt}
-use Rattle.levels.specs.Levels.{hop, hopF, zeroF, plusSquare, squares, level, frames, frame, levels}
+use Rattle.envelope.specs.Envelope.{hop, hopF, zeroF, plusSquare, squares, level, frames, frame, levels}
 use Rattle.invariance.specs.Scaled.{Pairwise, none, next}
 use Rattle.invariance.proofs.Twin.{Holds, Between, twin-add, twin-div, twin-root}
 use Rattle.invariance.proofs.Lists.{pairwise-length, pairwise-take, pairwise-drop, pairwise-table}

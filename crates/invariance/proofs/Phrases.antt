@@ -14,16 +14,12 @@ use lib.Ieee.{Float, nan}
 use Rattle.base.specs.Words.{Words, words, Spans, Edges, edges, timesAt, count}
 use Rattle.base.specs.declared.Times.{Times}
 use Rattle.base.proofs.Parts.{times-alike}
-use Rattle.checks.specs.declared.Answer.{Answer}
-use Rattle.checks.specs.declared.Answer.the-variants.{Accepted}
-use Rattle.calls.specs.Calls.{Output, output}
-use Rattle.levels.specs.Levels.{levels}
-use Rattle.floors.specs.Floors.{floor}
-use Rattle.envelope.specs.Levels.{loudRow}
-use Rattle.groups.specs.Groups.{membersOf, picked, pickedEdges}
-use Rattle.groups.proofs.Local.{group-place, place-group}
-use Rattle.fit_phrases.specs.FitPhrases.{fitFile}
-use Rattle.fit_file.specs.Calls.{durationOf, fitFileCall}
+use Rattle.limits.specs.declared.Answer.{Answer}
+use Rattle.limits.specs.declared.Answer.the-variants.{Accepted}
+use Rattle.word_calls.specs.Calls.{Output, output}
+use Rattle.envelope.specs.Envelope.{levels, floor, loudRow}
+use Rattle.fit_file.specs.FitFile.{membersOf, picked, pickedEdges, fitFile, durationOf, fitFileCall}
+use Rattle.fit_file.proofs.Local.{group-place, place-group}
 use Rattle.fit_file.proofs.Calls as calls
 use Rattle.invariance.specs.Scaled.{Recorded, Loudest}
 use Rattle.invariance.specs.Alike.{Word, wordAt, GivenAlike}

@@ -10,9 +10,7 @@ use native.Mathlib.Nat.{mul-one}
 use lib.IntN.{ℤ, pos, negsuc}
 use lib.Ieee.{Float, binary64, lt, le}
 use Rattle.base.specs.Loop.{table}
-use Rattle.levels.specs.Levels.{hop, frames, levels}
-use Rattle.floors.specs.Floors.{floor}
-use Rattle.envelope.specs.Levels.{loudRow, quietRow}
+use Rattle.envelope.specs.Envelope.{hop, frames, levels, floor, loudRow, quietRow}
 use Rattle.invariance.specs.Scaled.{Scaled, Recorded, Pairwise, LimitReached, Loudest}
 use Rattle.invariance.proofs.Lists.{pairwise-length, pairwise-tests, pairwise-each, pairwise-turned}
 use Rattle.invariance.proofs.Twin.{Twin}

@@ -9,8 +9,7 @@ use lib.IntN.{ℤ}
 use lib.Dec.{T}
 use lib.ListN.{length, getD}
 use lib.Ieee.{Float, nan, inf, fin, binary32, up, down, unlike, le, fits}
-use Rattle.levels.specs.Levels.{zeroF, frames, levels}
-use Rattle.floors.specs.Floors.{minPeak}
+use Rattle.envelope.specs.Envelope.{zeroF, frames, levels, minPeak}
 
 -- ---- "each sample of the second is, as a number, exactly the first's times 2^k with that sign; either zero may stand for 0"
 -- `fin s m e` is the number m * 2 ^ e, negative where s is true, and 2 ^ k is up k / down k: the equation is n * 2 ^ d = m * 2 ^ e * 2 ^ k.

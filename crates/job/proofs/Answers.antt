@@ -14,26 +14,23 @@ use Rattle.base.specs.Words.{Words, words, Spans, count, zeroF, wordsInPlaces, 
 use Rattle.base.specs.declared.Rule.{Rule}
 use Rattle.base.specs.declared.Rule.the-variants.{Fine, Breaks}
 use Rattle.base.proofs.Loops.{length-table}
-use Rattle.checks.specs.Order.{chain}
-use Rattle.levels.specs.Levels.{levels, frames}
-use Rattle.levels.proofs.Places.{length-levels}
-use Rattle.floors.specs.Floors.{floor}
-use Rattle.envelope.specs.Levels.{loudRow, quietRow}
+use Rattle.limits.specs.Order.{chain}
+use Rattle.envelope.specs.Envelope.{levels, frames, floor, loudRow, quietRow}
+use Rattle.envelope.proofs.Places.{length-levels}
 use Rattle.pieces.specs.Pieces.{Piece}
 use Rattle.pieces.specs.Parts.{startsOver, endsOver}
-use Rattle.run_rule.specs.Parts.{appliesTo}
-use Rattle.after_levels.specs.AfterLevels.{Run, runOn}
-use Rattle.lines.specs.Text.{lines, pieceLines, wordLines}
-use Rattle.lines.specs.Parts.{NoNans}
-use Rattle.layout.specs.Layout.{Contents, contents, tooMany, gapless, fileSize, column, wordsFrom, spansFrom, samplesFrom, jobWords, jobSpans, jobSamples}
-use Rattle.layout.proofs.Tables.{both, holds-within}
-use Rattle.layout.proofs.Moved.{words-moved, spans-moved}
+use Rattle.full_run.specs.Parts.{appliesTo, Heard}
+use Rattle.run_stages.specs.Stages.{Run, runOn}
+use Rattle.job_text.specs.Text.{lines, pieceLines, wordLines}
+use Rattle.job_text.specs.Parts.{NoNans}
+use Rattle.job_layout.specs.Layout.{Contents, contents, tooMany, gapless, fileSize, column, wordsFrom, spansFrom, samplesFrom, jobWords, jobSpans, jobSamples}
+use Rattle.job_layout.proofs.Tables.{both, holds-within}
+use Rattle.job_layout.proofs.Moved.{words-moved, spans-moved}
 use Rattle.full_run.specs.FullRun.{Input, runOf, runApplies, fullRun}
 use Rattle.full_run.specs.declared.Answer.{Answer}
 use Rattle.full_run.proofs.Promises.{run-by}
 use Rattle.full_run.proofs.Made.{applies-are}
-use Rattle.heard_run.specs.Parts.{Heard}
-use Rattle.heard_run.proofs.Runs.{run-within}
+use Rattle.full_run.proofs.Runs.{run-within}
 use Rattle.bounds.specs.Bounds.{Small}
 use Rattle.bounds.proofs.Small.{places-small}
 use Rattle.bounds.proofs.Running.{run-small}

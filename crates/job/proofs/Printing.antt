@@ -8,9 +8,9 @@ use lib.Ieee.{Float}
 use Rattle.base.specs.Loop.{table}
 use Rattle.base.specs.Refusals.{number}
 use Rattle.base.specs.declared.Refusal.{Refusal}
-use Rattle.levels.specs.Levels.{levels, frames}
-use Rattle.lines.specs.Text.{refusedLine, pieceLines, wordLines}
-use Rattle.lines.specs.Parts.{Wrote, NoNans}
+use Rattle.envelope.specs.Envelope.{levels, frames}
+use Rattle.job_text.specs.Text.{refusedLine, pieceLines, wordLines}
+use Rattle.job_text.specs.Parts.{Wrote, NoNans}
 use Rattle.full_run.specs.declared.Report.{Report}
 use Rattle.full_run.specs.declared.Answer.{Answer}
 use Rattle.full_run.specs.declared.Answer.the-variants.{Accepted, Refused}

@@ -13,12 +13,12 @@ use Rattle.base.specs.Refusals.{number}
 use Rattle.base.specs.Words.{count, zeroF}
 use Rattle.base.specs.declared.Refusal.the-variants.{Counts, Layout}
 use Rattle.base.proofs.Loops.{length-table}
-use Rattle.calls.proofs.Within.{WordsWithin, SpansWithin}
-use Rattle.levels.specs.Levels.{frames}
+use Rattle.word_calls.proofs.Within.{WordsWithin, SpansWithin}
+use Rattle.envelope.specs.Envelope.{frames}
 use Rattle.pieces.specs.Pieces.{need}
-use Rattle.lines.specs.Text.{refusedLine}
-use Rattle.layout.specs.Layout.{contents, tooMany, gapless, fileSize, column, samplesFrom, jobWords, jobSpans, jobSamples}
-use Rattle.layout.proofs.Tables.{neither}
+use Rattle.job_text.specs.Text.{refusedLine}
+use Rattle.job_layout.specs.Layout.{contents, tooMany, gapless, fileSize, column, samplesFrom, jobWords, jobSpans, jobSamples}
+use Rattle.job_layout.proofs.Tables.{neither}
 use Rattle.full_run.specs.declared.Report.{Report}
 use Rattle.full_run.specs.declared.Answer.the-variants.{Accepted}
 use Rattle.full_run.proofs.Promises.{RunWithin, accepted-answer}

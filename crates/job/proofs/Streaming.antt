@@ -7,8 +7,8 @@ use native.Mathlib.Omega.{arith}
 use lib.ListN.{length, take, drop, length-append, length-drop}
 use lib.Seq.{drop-append-le, drop-append-add, take-append-le}
 use lib.Ieee.{Float}
-use Rattle.levels.specs.Levels.{hop, level, frame, frames, levels}
-use Rattle.layout.proofs.Tabled.{table-alike, table-after}
+use Rattle.envelope.specs.Envelope.{hop, level, frame, frames, levels}
+use Rattle.job_layout.proofs.Tabled.{table-alike, table-after}
 
 module _ (xs ys : List Float) (q : ℕ) (whole : length xs ≡ 160 * q) where
   first : (k : ℕ) → k < q → frame (xs ++ ys) k ≡ frame xs k

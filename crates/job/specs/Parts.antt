@@ -4,11 +4,11 @@ use mathlib.Core.Path.{_≡_}
 use mathlib.Core.List.{List}
 use lib.ListN.{length, take, drop}
 use lib.Ieee.{Float}
-use Rattle.levels.specs.Levels.{levels}
-use Rattle.lines.specs.Parts.{NoNans}
-use Rattle.layout.specs.Layout.{contents, tableSize, wordSize, spanSize, fileSize, jobSamples}
-use Rattle.layout.specs.Parts.{planOf}
-use Rattle.layout.specs.declared.Plan.the-variants.{Holds}
+use Rattle.envelope.specs.Envelope.{levels}
+use Rattle.job_text.specs.Parts.{NoNans}
+use Rattle.job_layout.specs.Layout.{contents, tableSize, wordSize, spanSize, fileSize, jobSamples}
+use Rattle.job_layout.specs.Parts.{planOf}
+use Rattle.job_layout.specs.declared.Plan.the-variants.{Holds}
 use Rattle.full_run.specs.declared.Answer.{Answer}
 use Rattle.full_run.specs.declared.Answer.the-variants.{Accepted, Refused}
 

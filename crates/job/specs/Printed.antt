@@ -8,9 +8,9 @@ use lib.Ieee.{Float}
 use Rattle.base.specs.Refusals.{number}
 use Rattle.base.specs.Words.{Words, Spans, count, zeroF}
 use Rattle.base.specs.declared.Refusal.the-variants.{Counts, Layout}
-use Rattle.levels.specs.Levels.{frames}
-use Rattle.lines.specs.Text.{refusedLine, pieceLines, wordLines}
-use Rattle.layout.specs.Layout.{contents, tableSize, tooMany, gapless, fileSize, jobWords, jobSpans, jobSamples}
+use Rattle.envelope.specs.Envelope.{frames}
+use Rattle.job_text.specs.Text.{refusedLine, pieceLines, wordLines}
+use Rattle.job_layout.specs.Layout.{contents, tableSize, tooMany, gapless, fileSize, jobWords, jobSpans, jobSamples}
 use Rattle.full_run.specs.FullRun.{Input, input, Output, fullRun}
 use Rattle.full_run.specs.declared.Answer.{Answer}
 use Rattle.full_run.specs.declared.Answer.the-variants.{Accepted, Refused}

@@ -12,7 +12,7 @@ use lib.Ieee.{Float}
 use Rattle.base.specs.Whole.{toNat, minZ, maxZ}
 use Rattle.frames.specs.Frames.{frameAt, frameFromZero, frameSeconds}
 use Rattle.frames.proofs.Indices.{fromZero-nat}
-use Rattle.envelope.specs.Levels.{loudRow}
+use Rattle.envelope.specs.Envelope.{loudRow}
 use Rattle.envelope.proofs.Scan.{length-row}
 use Rattle.last_run.specs.LastRun.{framesOf, frameRun, secondsOf, lastRun}
 use Rattle.last_run.specs.Exact.{firstFrame, endFrame}

@@ -13,7 +13,7 @@ use lib.Ieee.{Float}
 use Rattle.base.specs.Loop.{on, out, runBack}
 use Rattle.base.proofs.Loops.{back-next, back-stop, back-done}
 use Rattle.frames.specs.Frames.{frameSeconds}
-use Rattle.envelope.specs.Levels.{loud}
+use Rattle.envelope.specs.Envelope.{loud}
 use Rattle.envelope.proofs.Scan.{one-less}
 use Rattle.last_run.specs.LastRun.{Ends, backTurn, endsBetween, framesOf, frameRun, secondsOf, lastRun}
 use Rattle.last_run.specs.Exact.{NoneLoud, RunIs, NoSound, SoundIs, firstFrame, endFrame}

@@ -14,9 +14,8 @@ use Rattle.base.specs.declared.Refusal.{Refusal}
 use Rattle.base.specs.declared.Refusal.the-variants.{Counts, Time, Levels}
 use Rattle.base.specs.declared.Rule.the-variants.{Fine, Breaks}
 use Rattle.base.proofs.First.{first-here, first-skip, first-end}
-use Rattle.time_tests.specs.Limits.{badTime}
-use Rattle.size_tests.specs.Limits.{manySamples}
-use Rattle.envelope.specs.Levels.{loudRow}
+use Rattle.limits.specs.Limits.{badTime, manySamples}
+use Rattle.envelope.specs.Envelope.{loudRow}
 use Rattle.last_run.specs.LastRun.{lastRun}
 use Rattle.last_run.specs.Calls.{tests, lastRunCall}
 use Rattle.last_run.specs.Exact.{NoSound, SoundIs, firstFrame, endFrame}
@@ -24,7 +23,7 @@ use Rattle.last_run.specs.declared.Run.{Run}
 use Rattle.last_run.specs.declared.Run.the-variants.{Sound, Nothing}
 use Rattle.last_run.specs.declared.Answer.the-variants.{Accepted, Refused}
 use Rattle.last_run.proofs.Rules.{call-by}
-use Rattle.calls.proofs.Within.{Within, within-fine, fine-within}
+use Rattle.word_calls.proofs.Within.{Within, within-fine, fine-within}
 use Rattle.last_run.proofs.Exact.{nothing-exactly, sound-exactly}
 
 bad-outside : (t : Float) → badTime t ≡ true → Within t → ⊥

@@ -11,7 +11,7 @@ use Rattle.base.specs.Refusals.{first}
 use Rattle.base.specs.declared.Rule.{Rule}
 use Rattle.base.specs.declared.Rule.the-variants.{Fine}
 use Rattle.base.proofs.First.{fine-none}
-use Rattle.envelope.specs.Levels.{loudRow}
+use Rattle.envelope.specs.Envelope.{loudRow}
 use Rattle.last_run.specs.LastRun.{lastRun}
 use Rattle.last_run.specs.Calls.{tests, byRule, lastRunCall}
 

@@ -10,9 +10,9 @@ use lib.Ieee.{Float, nan, fin, binary64, round, size, span, climb, units, odd, l
 use Rattle.base.specs.Loop.{runBack}
 use Rattle.base.specs.Refusals.{first}
 use Rattle.base.specs.declared.Refusal.the-variants.{Counts, Time, Levels}
-use Rattle.time_tests.specs.Limits.{timeOf}
+use Rattle.limits.specs.Limits.{timeOf}
 use Rattle.frames.specs.Frames.{floorI64, frameAt, frameFromZero, frameSeconds}
-use Rattle.envelope.specs.Levels.{loudRow}
+use Rattle.envelope.specs.Envelope.{loudRow}
 use Rattle.last_run.specs.LastRun.{endsBetween, framesOf, frameRun, lastRun}
 use Rattle.last_run.specs.Calls.{tests, lastRunCall}
 use Rattle.last_run.specs.declared.Run.the-variants.{Sound, Nothing}

@@ -8,9 +8,8 @@ use Rattle.base.specs.Refusals.{Test, test, first}
 use Rattle.base.specs.declared.Refusal.the-variants.{Time, Counts, Levels}
 use Rattle.base.specs.declared.Rule.{Rule}
 use Rattle.base.specs.declared.Rule.the-variants.{Fine, Breaks}
-use Rattle.time_tests.specs.Limits.{badTime}
-use Rattle.size_tests.specs.Limits.{manySamples, otherLevels}
-use Rattle.envelope.specs.Levels.{loudRow}
+use Rattle.limits.specs.Limits.{badTime, manySamples, otherLevels}
+use Rattle.envelope.specs.Envelope.{loudRow}
 use Rattle.last_run.specs.LastRun.{lastRun}
 use Rattle.last_run.specs.declared.Run.{Run}
 use Rattle.last_run.specs.declared.Answer.{Answer}

@@ -9,7 +9,7 @@ use lib.ListN.{length}
 use lib.Ieee.{Float}
 use Rattle.base.specs.Whole.{toNat}
 use Rattle.frames.specs.Frames.{frameFromZero, frameSeconds}
-use Rattle.envelope.specs.Levels.{loud}
+use Rattle.envelope.specs.Envelope.{loud}
 
 -- ---- "no loud frame is in the range": of the frames from lo to before hi.
 abbrev pub NoneLoud : List Bool → ℕ → ℕ → Type 0

@@ -10,7 +10,7 @@ use Rattle.base.specs.Whole.{toNat, minZ}
 use Rattle.base.specs.Loop.{Turn, on, out, rangeBack}
 use Rattle.base.specs.Words.{endSilence}
 use Rattle.frames.specs.Frames.{frameFromZero, frameSeconds}
-use Rattle.envelope.specs.Levels.{loud}
+use Rattle.envelope.specs.Envelope.{loud}
 use Rattle.last_run.specs.declared.FrameRun.{FrameRun}
 use Rattle.last_run.specs.declared.FrameRun.the-variants.{Frames, NoFrames}
 use Rattle.last_run.specs.declared.Run.{Run}

@@ -5,8 +5,8 @@ ghost use Prim.Native.Nat.{_<_, _≤_, _^_};
 ghost use lib.IntN.{pos};
 ghost use lib.ListN.{length};
 ghost use Rattle.base.specs.Refusals.{first};
-ghost use Rattle.time_tests.specs.Limits.{badTime};
-ghost use Rattle.envelope.specs.Levels.{loudRow};
+ghost use Rattle.limits.specs.Limits.{badTime};
+ghost use Rattle.envelope.specs.Envelope.{loudRow};
 ghost use Rattle.last_run.specs.LastRun.{backStep, endsBetween, framesOf, frameRun, secondsOf, lastRun};
 ghost use Rattle.last_run.specs.Calls.{tests, lastRunCall};
 ghost use Rattle.last_run.specs.Parts.{endsOf, turnOf, Low, lastFrame};
@@ -163,23 +163,23 @@ pub fn run_between(levels: &[f64], floor: f64, from: f64, to: f64) -> Run
 fn bad_times(from: f64, to: f64) -> bool
     ensures { λ r. ⌜ r ≡ (badTime from || badTime to) ⌝ }
 {
-    if time_tests::bad_time(from) {
+    if limits::times::bad_time(from) {
         return true;
     }
-    time_tests::bad_time(to)
+    limits::times::bad_time(to)
 }
 
 // The first refusal that applies, of 4, 1 and 7.
 fn judge(levels: usize, count: usize, from: f64, to: f64) -> Rule
     ensures { λ r. ⌜ r ≡ first (tests levels count from to) ⌝ }
 {
-    if size_tests::many_samples(count) {
+    if limits::sizes::many_samples(count) {
         return Rule::Breaks(Refusal::Counts);
     }
     if bad_times(from, to) {
         return Rule::Breaks(Refusal::Time);
     }
-    if size_tests::other_levels(levels, count) {
+    if limits::sizes::other_levels(levels, count) {
         return Rule::Breaks(Refusal::Levels);
     }
     Rule::Fine

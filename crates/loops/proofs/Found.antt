@@ -8,13 +8,11 @@ use lib.Dec.{leb, ltb}
 use Rattle.base.specs.Loop.{each}
 use Rattle.base.specs.Words.{Words, words, count}
 use Rattle.base.proofs.Loops.{each-seen, each-holds}
-use Rattle.copies.specs.Loops.{maxRun, minCopies, same, copiesEnd, drain, isLoop}
-use Rattle.passes.specs.Loops.{Collapsed, loopTurn, pass, collapseLoops}
-use Rattle.copies.specs.Parts.{goesOn}
-use Rattle.passes.specs.Parts.{turnWords, passWords, loopWords}
-use Rattle.copies.proofs.Drained.{length-drained}
-use Rattle.copies.proofs.Copies.{copies-beyond}
-use Rattle.passes.proofs.InPlace.{drain-none}
+use Rattle.loops.specs.Loops.{maxRun, minCopies, same, copiesEnd, drain, isLoop, Collapsed, loopTurn, pass, collapseLoops}
+use Rattle.loops.specs.Parts.{goesOn, turnWords, passWords, loopWords}
+use Rattle.loops.proofs.Drained.{length-drained}
+use Rattle.loops.proofs.Copies.{copies-beyond}
+use Rattle.loops.proofs.InPlace.{drain-none}
 
 -- ---- the words alone
 turn-words : (n i : ℕ) (c : Collapsed) → loopTurn n i c .words ≡ turnWords n i (c .words)

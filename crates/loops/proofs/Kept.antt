@@ -8,11 +8,9 @@ use lib.ListN.{length, take, drop, getD}
 use lib.Ieee.{Float, nan}
 use Rattle.base.specs.Words.{Words, count}
 use Rattle.base.proofs.Loops.{each-holds}
-use Rattle.calls.proofs.Within.{Within, WordsWithin}
-use Rattle.copies.specs.Loops.{maxRun, drained, drain}
-use Rattle.passes.specs.Loops.{collapseLoops}
-use Rattle.copies.specs.Parts.{goesOn}
-use Rattle.passes.specs.Parts.{turnWords, passWords, loopWords}
+use Rattle.word_calls.proofs.Within.{Within, WordsWithin}
+use Rattle.loops.specs.Loops.{maxRun, drained, drain, collapseLoops}
+use Rattle.loops.specs.Parts.{goesOn, turnWords, passWords, loopWords}
 use Rattle.loops.proofs.Found.{loops-words, never-more}
 use Rattle.loops.proofs.Whole.{left-even}
 

@@ -12,12 +12,11 @@ use Rattle.base.specs.declared.Refusal.{Refusal}
 use Rattle.base.specs.declared.Rule.{Rule}
 use Rattle.base.specs.declared.Rule.the-variants.{Fine, Breaks}
 use Rattle.base.proofs.First.{None, First, fine-none, none-fine, breaks-first, first-breaks}
-use Rattle.checks.specs.Order.{inOrder, chain}
-use Rattle.calls.specs.Calls.{ofWords}
-use Rattle.calls.proofs.Within.{WordsWithin, words-exactly}
+use Rattle.limits.specs.Order.{inOrder, chain}
+use Rattle.word_calls.specs.Calls.{ofWords}
+use Rattle.word_calls.proofs.Within.{WordsWithin, words-exactly}
 use Rattle.loops.specs.declared.Answer.the-variants.{Accepted, Refused}
-use Rattle.passes.specs.Loops.{collapseLoops}
-use Rattle.loops.specs.Calls.{Output, accepted, byRule, collapseCall}
+use Rattle.loops.specs.Loops.{collapseLoops, Output, accepted, byRule, collapseCall}
 use Rattle.loops.proofs.Whole.{left-even, first-places}
 use Rattle.loops.proofs.Rules.{fine-even}
 use Rattle.loops.proofs.Found.{found-fewer, never-more}

@@ -9,15 +9,13 @@ use Rattle.base.specs.declared.Refusal.{Refusal}
 use Rattle.base.specs.declared.Rule.{Rule}
 use Rattle.base.specs.declared.Rule.the-variants.{Fine, Breaks}
 use Rattle.base.proofs.First.{fine-none}
-use Rattle.checks.specs.Order.{inOrder, chain}
-use Rattle.calls.specs.Calls.{ofWords}
-use Rattle.calls.proofs.Within.{words-exactly, one-length}
+use Rattle.limits.specs.Order.{inOrder, chain}
+use Rattle.word_calls.specs.Calls.{ofWords}
+use Rattle.word_calls.proofs.Within.{words-exactly, one-length}
 use Rattle.loops.specs.declared.Left.{Left}
 use Rattle.loops.specs.declared.Answer.the-variants.{Accepted, Refused}
-use Rattle.passes.specs.Loops.{collapseLoops}
-use Rattle.loops.specs.Calls.{Output, output, accepted, collapseCall}
-use Rattle.passes.specs.Parts.{loopWords}
-use Rattle.loops.specs.Parts.{Collapsing}
+use Rattle.loops.specs.Loops.{collapseLoops, Output, output, accepted, collapseCall}
+use Rattle.loops.specs.Parts.{loopWords, Collapsing}
 use Rattle.loops.proofs.Found.{loops-words, found-fewer}
 
 -- ---- what the core leaves, from the passes and the places made zero

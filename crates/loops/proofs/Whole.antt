@@ -9,10 +9,8 @@ use lib.Seq.{take-at}
 use Rattle.base.specs.Words.{Words, count, inPlaces, zeroF, wordsInPlaces}
 use Rattle.base.specs.Parts.{OneLength, firstWords}
 use Rattle.base.proofs.Loops.{each-holds}
-use Rattle.copies.specs.Loops.{maxRun, drained, drain}
-use Rattle.passes.specs.Loops.{collapseLoops}
-use Rattle.copies.specs.Parts.{goesOn}
-use Rattle.passes.specs.Parts.{turnWords, passWords, loopWords}
+use Rattle.loops.specs.Loops.{maxRun, drained, drain, collapseLoops}
+use Rattle.loops.specs.Parts.{goesOn, turnWords, passWords, loopWords}
 use Rattle.base.proofs.Cleared.{words-alike}
 use Rattle.loops.proofs.Found.{loops-words}
 

@@ -13,15 +13,12 @@ use Rattle.base.specs.Refusals.{first}
 use Rattle.base.specs.Words.{Words, words, wordsInPlaces}
 use Rattle.base.specs.declared.Refusal.the-variants.{Lengths, Counts, Time, Letters}
 use Rattle.base.proofs.First.{first-skip, first-here, breaks-first}
-use Rattle.time_tests.specs.Limits.{timeOf}
-use Rattle.checks.specs.Limits.{any}
-use Rattle.checks.specs.Order.{inOrder, chain}
-use Rattle.calls.specs.Calls.{uneven, ofWords}
+use Rattle.limits.specs.Limits.{timeOf, any}
+use Rattle.limits.specs.Order.{inOrder, chain}
+use Rattle.word_calls.specs.Calls.{uneven, ofWords}
 use Rattle.loops.specs.declared.Answer.the-variants.{Accepted, Refused}
-use Rattle.copies.specs.Loops.{equal, same, copiesEnd, isLoop}
-use Rattle.passes.specs.Loops.{loopTurn, pass, collapseLoops}
-use Rattle.loops.specs.Calls.{output, collapseCall}
-use Rattle.copies.specs.Parts.{onlyKeys}
+use Rattle.loops.specs.Loops.{equal, same, copiesEnd, isLoop, loopTurn, pass, collapseLoops, output, collapseCall}
+use Rattle.loops.specs.Parts.{onlyKeys}
 use Rattle.loops.proofs.Promises.{refused-exactly}
 
 -- 0 s to 4 s

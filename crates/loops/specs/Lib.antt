@@ -1,3 +1,3 @@
 -- Loops collapsed to their first copy.
-pub mod Calls
+pub mod Loops
 pub mod Parts

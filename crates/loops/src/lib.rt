@@ -3,11 +3,13 @@ ghost use mathlib.Core.Path.{_≡_};
 ghost use lib.ListN.{length};
 ghost use Rattle.base.specs.Words.{words};
 ghost use Rattle.base.specs.Parts.{OneLength};
-ghost use Rattle.passes.specs.Loops.{collapseLoops};
-ghost use Rattle.loops.specs.Calls.{output, accepted, collapseCall};
+ghost use Rattle.loops.specs.Loops.{collapseLoops, output, accepted, collapseCall};
 ghost use Rattle.loops.specs.Parts.{Collapsing};
 use base::Refusal;
 use base::Rule;
+
+pub mod copy;
+pub mod pass;
 
 // What the call answers: the words left and whether a loop was found, or why it refuses.
 pub enum Answer {
@@ -30,9 +32,12 @@ pub fn collapse(
     keys: &mut [u32],
 ) -> Left
     requires { ⌜ OneLength (length (now keys)) (words (now starts) (now ends) (now letters) (now units) (now keys)) ⌝ }
-    ensures { λ r. ⌜ Collapsing r (words (now (starts .entry)) (now (ends .entry)) (now (letters .entry)) (now (units .entry)) (now (keys .entry))) (words (now (starts .exit)) (now (ends .exit)) (now (letters .exit)) (now (units .exit)) (now (keys .exit))) ⌝ }
+    ensures { λ r.
+        let before = words (now (starts .entry)) (now (ends .entry)) (now (letters .entry)) (now (units .entry)) (now (keys .entry)) in
+        let after = words (now (starts .exit)) (now (ends .exit)) (now (letters .exit)) (now (units .exit)) (now (keys .exit)) in
+        ⌜ Collapsing r before after ⌝ }
 {
-    let len = passes::passes(starts, ends, letters, units, keys);
+    let len = pass::passes(starts, ends, letters, units, keys);
     base::clear(starts, ends, letters, units, keys, len);
     Left {
         count: len,
@@ -49,7 +54,10 @@ fn accept(
     keys: &mut [u32],
 ) -> Answer
     requires { ⌜ OneLength (length (now keys)) (words (now starts) (now ends) (now letters) (now units) (now keys)) ⌝ }
-    ensures { λ r. ⌜ output r (words (now (starts .exit)) (now (ends .exit)) (now (letters .exit)) (now (units .exit)) (now (keys .exit))) ≡ accepted (collapseLoops (words (now (starts .entry)) (now (ends .entry)) (now (letters .entry)) (now (units .entry)) (now (keys .entry)))) (length (now (keys .entry))) ⌝ }
+    ensures { λ r.
+        let before = words (now (starts .entry)) (now (ends .entry)) (now (letters .entry)) (now (units .entry)) (now (keys .entry)) in
+        let after = words (now (starts .exit)) (now (ends .exit)) (now (letters .exit)) (now (units .exit)) (now (keys .exit)) in
+        ⌜ output r after ≡ accepted (collapseLoops before) (length (now (keys .entry))) ⌝ }
 {
     let left = collapse(starts, ends, letters, units, keys);
     Answer::Accepted(left.count, left.found)
@@ -63,9 +71,12 @@ pub fn collapse_loops(
     units: &mut [u32],
     keys: &mut [u32],
 ) -> Answer
-    ensures { λ r. ⌜ output r (words (now (starts .exit)) (now (ends .exit)) (now (letters .exit)) (now (units .exit)) (now (keys .exit))) ≡ collapseCall (words (now (starts .entry)) (now (ends .entry)) (now (letters .entry)) (now (units .entry)) (now (keys .entry))) ⌝ }
+    ensures { λ r.
+        let before = words (now (starts .entry)) (now (ends .entry)) (now (letters .entry)) (now (units .entry)) (now (keys .entry)) in
+        let after = words (now (starts .exit)) (now (ends .exit)) (now (letters .exit)) (now (units .exit)) (now (keys .exit)) in
+        ⌜ output r after ≡ collapseCall before ⌝ }
 {
-    let rule = checks::chain(calls::of_words(starts, ends, letters, units, keys));
+    let rule = limits::chain(word_calls::of_words(starts, ends, letters, units, keys));
     match rule {
         Rule::Breaks(why) => Answer::Refused(why),
         Rule::Fine => accept(starts, ends, letters, units, keys),

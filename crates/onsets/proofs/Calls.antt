@@ -10,11 +10,11 @@ use Rattle.base.specs.declared.Refusal.{Refusal}
 use Rattle.base.specs.declared.Rule.{Rule}
 use Rattle.base.specs.declared.Rule.the-variants.{Fine, Breaks}
 use Rattle.base.proofs.First.{First}
-use Rattle.checks.specs.Order.{inOrder}
-use Rattle.calls.specs.Calls.{soundRule, output}
-use Rattle.checks.specs.declared.Answer.the-variants.{Accepted, Refused}
-use Rattle.calls.proofs.Moved as moves
-use Rattle.envelope.specs.Levels.{loudRow}
+use Rattle.limits.specs.Order.{inOrder}
+use Rattle.word_calls.specs.Calls.{soundRule, output}
+use Rattle.limits.specs.declared.Answer.the-variants.{Accepted, Refused}
+use Rattle.word_calls.proofs.Moved as moves
+use Rattle.envelope.specs.Envelope.{loudRow}
 use Rattle.onsets.specs.Onsets.{snapOnsets, onsetsCall}
 
 module _ (ws : Words) (levels : List Float) (floor : Float) (count : ℕ) where

@@ -20,7 +20,7 @@ use Rattle.base.specs.declared.Times.{Times}
 use Rattle.base.proofs.Loops.{back-out, back-next, back-stop, back-done, back-nat, max-nat, sub-nat}
 use Rattle.js.specs.Js.{jsMin}
 use Rattle.frames.specs.Frames.{frameAt, frameCeil, frameSeconds}
-use Rattle.envelope.specs.Levels.{loud}
+use Rattle.envelope.specs.Envelope.{loud}
 use Rattle.envelope.specs.Parts.{Met}
 use Rattle.onsets.specs.Onsets.{pause, Onset, backTurn, onsetFrame, onsetOf, prevEnd, onsetTurn}
 use Rattle.onsets.specs.Parts.{goesOn, onsetSeconds}

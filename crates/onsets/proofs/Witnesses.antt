@@ -13,12 +13,11 @@ use Rattle.base.specs.Loop.{each, runBack}
 use Rattle.base.specs.declared.Refusal.the-variants.{Time, Letters, Lengths, Counts, Levels}
 use Rattle.js.specs.Js.{under, jsMin}
 use Rattle.frames.specs.Frames.{floorI64, ceilI64, frameAt, frameCeil, frameSeconds}
-use Rattle.envelope.specs.Levels.{loudRow}
-use Rattle.time_tests.specs.Limits.{timeOf}
-use Rattle.checks.specs.Limits.{any}
-use Rattle.checks.specs.Order.{inOrder, chain}
-use Rattle.calls.specs.Calls.{uneven, ofWords, withLevels, soundRule, output}
-use Rattle.checks.specs.declared.Answer.the-variants.{Accepted, Refused}
+use Rattle.envelope.specs.Envelope.{loudRow}
+use Rattle.limits.specs.Limits.{timeOf, any}
+use Rattle.limits.specs.Order.{inOrder, chain}
+use Rattle.word_calls.specs.Calls.{uneven, ofWords, withLevels, soundRule, output}
+use Rattle.limits.specs.declared.Answer.the-variants.{Accepted, Refused}
 use Rattle.onsets.specs.Onsets.{onsetFrame, onsetOf, prevEnd, onsetTurn, snapOnsets, onsetsCall}
 
 -- so many hundredths of a second

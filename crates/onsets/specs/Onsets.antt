@@ -13,8 +13,8 @@ use Rattle.base.specs.Words.{Words, Edges, edges, times, timesAt, setTimes, edg
 use Rattle.base.specs.declared.Times.{Times}
 use Rattle.js.specs.Js.{jsMin}
 use Rattle.frames.specs.Frames.{frameAt, frameCeil, frameSeconds}
-use Rattle.envelope.specs.Levels.{loud, loudRow}
-use Rattle.calls.specs.Calls.{soundRule, Output, moved}
+use Rattle.envelope.specs.Envelope.{loud, loudRow}
+use Rattle.word_calls.specs.Calls.{soundRule, Output, moved}
 
 -- ---- PAUSE, 0.15 s: from here on, what lies between two words is a pause.
 abbrev pub pause : Float

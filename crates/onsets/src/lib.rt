@@ -4,13 +4,13 @@ ghost use Prim.Native.Nat.{max, _-_, _≤_};
 ghost use lib.IntN.{pos};
 ghost use lib.ListN.{length};
 ghost use Rattle.base.specs.Words.{words, edges};
-ghost use Rattle.envelope.specs.Levels.{loudRow};
-ghost use Rattle.calls.specs.Calls.{output};
+ghost use Rattle.envelope.specs.Envelope.{loudRow};
+ghost use Rattle.word_calls.specs.Calls.{output};
 ghost use Rattle.onsets.specs.Onsets.{onsetFrame, onsetOf, prevEnd, snapOnsets, onsetsCall};
 ghost use Rattle.onsets.specs.Parts.{onsetSeconds, goesOn};
 use base::Rule;
 use base::Times;
-use checks::Answer;
+use limits::Answer;
 
 // From so many seconds on, what lies between two words is a pause.
 const PAUSE: f64 = 0.15;
@@ -99,7 +99,10 @@ fn prev_end_at(ends: &[f64], i: usize) -> f64
 // Moves the start of each word after a pause back to where its sound rises (onsets.rs, snap_onsets); nothing is checked.
 pub fn move_onsets(starts: &mut [f64], ends: &[f64], levels: &[f64], floor: f64)
     requires { ⌜ length (now ends) ≡ length (now starts) ⌝ }
-    ensures { λ _. ⌜ edges (now (starts .exit)) (now (ends .entry)) ≡ snapOnsets (loudRow floor (now (levels .entry))) (edges (now (starts .entry)) (now (ends .entry))) ⌝ }
+    ensures { λ _.
+        let before = edges (now (starts .entry)) (now (ends .entry)) in
+        let after = edges (now (starts .exit)) (now (ends .entry)) in
+        ⌜ after ≡ snapOnsets (loudRow floor (now (levels .entry))) before ⌝ }
 {
     let mut i = 0;
     while i < starts.len() {
@@ -124,9 +127,12 @@ pub fn snap_onsets(
     floor: f64,
     count: usize,
 ) -> Answer
-    ensures { λ r. ⌜ output r (words (now (starts .exit)) (now (ends .entry)) (now (letters .entry)) (now (units .entry)) (now (keys .entry))) ≡ onsetsCall (words (now (starts .entry)) (now (ends .entry)) (now (letters .entry)) (now (units .entry)) (now (keys .entry))) (now (levels .entry)) floor count ⌝ }
+    ensures { λ r.
+        let before = words (now (starts .entry)) (now (ends .entry)) (now (letters .entry)) (now (units .entry)) (now (keys .entry)) in
+        let after = words (now (starts .exit)) (now (ends .entry)) (now (letters .entry)) (now (units .entry)) (now (keys .entry)) in
+        ⌜ output r after ≡ onsetsCall before (now (levels .entry)) floor count ⌝ }
 {
-    let rule = calls::sound_rule(starts, ends, letters, units, keys, levels.len(), count);
+    let rule = word_calls::sound_rule(starts, ends, letters, units, keys, levels.len(), count);
     match rule {
         Rule::Breaks(why) => Answer::Refused(why),
         Rule::Fine => {

@@ -17,9 +17,8 @@ use Rattle.base.specs.declared.Refusal.{Refusal}
 use Rattle.base.specs.declared.Refusal.the-variants.{Counts, Time}
 use Rattle.base.specs.declared.Rule.the-variants.{Fine, Breaks}
 use Rattle.base.proofs.First.{first-here, first-skip, first-end}
-use Rattle.size_tests.specs.Limits.{manySamples}
-use Rattle.time_tests.specs.Limits.{badTime}
-use Rattle.calls.proofs.Within.{Within, within-fine, fine-within}
+use Rattle.limits.specs.Limits.{manySamples, badTime}
+use Rattle.word_calls.proofs.Within.{Within, within-fine, fine-within}
 use Rattle.frames.specs.Frames.{rate, floorI64, ceilI64}
 use Rattle.peak.specs.Peak.{wordPeak, tests, peakCall}
 use Rattle.peak.specs.declared.Level.the-variants.{Accepted, Refused}

@@ -12,8 +12,7 @@ use Rattle.base.specs.declared.Rule.{Rule}
 use Rattle.base.specs.declared.Rule.the-variants.{Fine, Breaks}
 use Rattle.js.specs.Js.{jsMax}
 use Rattle.frames.specs.Frames.{rate, floorI64, ceilI64}
-use Rattle.size_tests.specs.Limits.{manySamples}
-use Rattle.time_tests.specs.Limits.{badTime}
+use Rattle.limits.specs.Limits.{manySamples, badTime}
 use Rattle.peak.specs.declared.Level.{Level}
 use Rattle.peak.specs.declared.Level.the-variants.{Accepted, Refused}
 

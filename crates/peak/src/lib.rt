@@ -81,13 +81,13 @@ fn word_peak(samples: &[f32], start: f64, end: f64) -> f64
 fn judge(samples: &[f32], start: f64, end: f64) -> Rule
     ensures { λ r. ⌜ r ≡ first (tests (now (samples .entry)) start end) ⌝ }
 {
-    if size_tests::many_samples(samples.len()) {
+    if limits::sizes::many_samples(samples.len()) {
         return Rule::Breaks(Refusal::Counts);
     }
-    if time_tests::bad_time(start) {
+    if limits::times::bad_time(start) {
         return Rule::Breaks(Refusal::Time);
     }
-    if time_tests::bad_time(end) {
+    if limits::times::bad_time(end) {
         return Rule::Breaks(Refusal::Time);
     }
     Rule::Fine

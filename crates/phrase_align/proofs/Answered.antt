@@ -10,14 +10,13 @@ use lib.ListN.{getD, length, drop, length-append, List·getD-append, take, repli
 use lib.Seq.{length-take-le, drop-at}
 use lib.Ieee.{nan}
 use Rattle.base.specs.Words.{Words, Spans, count, inPlaces, zeroF, wordsInPlaces}
-use Rattle.calls.proofs.Within.{one-length}
+use Rattle.word_calls.proofs.Within.{one-length}
 use Rattle.share.specs.Share.{sum}
-use Rattle.inside.specs.Spread.{inside}
-use Rattle.phrases.specs.PhraseAlign.{alignPhrases, inTheirPlaces}
-use Rattle.phrase_align.specs.Calls.{alignCall}
+use Rattle.spread.specs.Spread.{inside}
+use Rattle.phrase_align.specs.PhraseAlign.{alignPhrases, inTheirPlaces, alignCall}
 use Rattle.phrase_align.specs.declared.Answer.the-variants.{Accepted}
 use Rattle.phrase_align.proofs.Calls.{accepted-answer}
-use Rattle.phrases.proofs.Facts.{wordTimes, PlacedWord, placed-after, count-least}
+use Rattle.phrase_align.proofs.Facts.{wordTimes, PlacedWord, placed-after, count-least}
 
 module _ (ws : Words) (spans : Spans) (phrases : List ℕ) (n : ℕ) (says : alignCall ws spans phrases .answer ≡ Accepted n) where
   -- ---- "The new count is given back."

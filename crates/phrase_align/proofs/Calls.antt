@@ -11,13 +11,12 @@ use Rattle.base.specs.declared.Refusal.{Refusal}
 use Rattle.base.specs.declared.Rule.{Rule}
 use Rattle.base.specs.declared.Rule.the-variants.{Fine, Breaks}
 use Rattle.base.proofs.First.{First, none-fine, breaks-first, first-breaks}
-use Rattle.checks.specs.Order.{inOrder, chain}
-use Rattle.calls.specs.Calls.{spansRule}
-use Rattle.checks.specs.declared.Applies.{Applies}
-use Rattle.calls.proofs.Within.{WordsWithin, SpansWithin}
-use Rattle.calls.proofs.Moved.{spansApplies, within-spans, spans-fine}
-use Rattle.phrases.specs.PhraseAlign.{alignPhrases}
-use Rattle.phrase_align.specs.Calls.{Output, output, accepted, byRule, alignCall}
+use Rattle.limits.specs.Order.{inOrder, chain}
+use Rattle.word_calls.specs.Calls.{spansRule}
+use Rattle.limits.specs.declared.Applies.{Applies}
+use Rattle.word_calls.proofs.Within.{WordsWithin, SpansWithin}
+use Rattle.word_calls.proofs.Moved.{spansApplies, within-spans, spans-fine}
+use Rattle.phrase_align.specs.PhraseAlign.{alignPhrases, Output, output, accepted, byRule, alignCall}
 use Rattle.phrase_align.specs.declared.Answer.the-variants.{Accepted, Refused}
 
 -- ---- words and spans within the limits, and a phrase place for every word

@@ -6,11 +6,10 @@ use lib.ListN.{length, replicate}
 use lib.Ieee.{Float}
 use Rattle.base.specs.Words.{Words, words, Spans, count, withPart, wordsInPlaces}
 use Rattle.base.specs.Parts.{OneLength, firstWords}
-use Rattle.phrases.specs.PhraseAlign.{alignPhrases, inTheirPlaces}
-use Rattle.phrase_align.specs.Calls.{output, accepted}
-use Rattle.phrases.specs.Parts.{held, heldSpans}
+use Rattle.phrase_align.specs.PhraseAlign.{alignPhrases, inTheirPlaces, output, accepted}
+use Rattle.phrase_align.specs.Parts.{held, heldSpans}
 use Rattle.phrase_align.specs.declared.Answer.the-variants.{Accepted}
-use Rattle.phrases.proofs.Joined.{words-are, numbers-are, counted}
+use Rattle.phrase_align.proofs.Joined.{words-are, numbers-are, counted}
 
 module _ (all : Words) (even : OneLength (count all) all) (phrases : List ℕ) (room : count all ≤ length phrases)
     (spans : Spans) (l : length (spans .counts) ≡ length (spans .starts)) {s e : List Float} {f : List ℕ} {r : ℕ}

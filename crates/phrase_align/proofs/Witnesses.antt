@@ -13,15 +13,11 @@ use Rattle.base.specs.Loop.{each, fold, up, down}
 use Rattle.base.specs.declared.Refusal.the-variants.{Time, Letters, Lengths, Counts, Places}
 use Rattle.js.specs.Js.{under, jsMax}
 use Rattle.share.specs.Share as shares
-use Rattle.time_tests.specs.Limits.{timeOf}
-use Rattle.checks.specs.Limits.{any}
-use Rattle.checks.specs.Order.{inOrder, chain}
-use Rattle.calls.specs.Calls.{uneven, ofWords, unevenSpans, manySpans, withSpans, withPlaces, spansRule}
-use Rattle.inside.specs.Spread.{inside, firstInside, lastInside}
-use Rattle.spreads.specs.Spread.{spread, spreadBefore, spreadAfter}
-use Rattle.spread.specs.Spread.{betweenTurn, placeBetween, placeGroup}
-use Rattle.phrases.specs.PhraseAlign.{groupOf, extend, placedIn, placeTurn, alignPhrases, inTheirPlaces}
-use Rattle.phrase_align.specs.Calls.{output, alignCall}
+use Rattle.limits.specs.Limits.{timeOf, any}
+use Rattle.limits.specs.Order.{inOrder, chain}
+use Rattle.word_calls.specs.Calls.{uneven, ofWords, unevenSpans, manySpans, withSpans, withPlaces, spansRule}
+use Rattle.spread.specs.Spread.{inside, firstInside, lastInside, spread, spreadBefore, spreadAfter, betweenTurn, placeBetween, placeGroup}
+use Rattle.phrase_align.specs.PhraseAlign.{groupOf, extend, placedIn, placeTurn, alignPhrases, inTheirPlaces, output, alignCall}
 use Rattle.phrase_align.specs.declared.Answer.the-variants.{Accepted, Refused}
 
 -- so many quarters of a second

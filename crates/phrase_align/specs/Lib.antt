@@ -1,2 +1,3 @@
 -- Words placed in the spans of their phrases.
-pub mod Calls
+pub mod PhraseAlign
+pub mod Parts

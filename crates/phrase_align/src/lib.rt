@@ -4,11 +4,12 @@ ghost use Prim.Native.Nat.{_≤_};
 ghost use lib.ListN.{length};
 ghost use Rattle.base.specs.Words.{words, spans};
 ghost use Rattle.base.specs.Parts.{OneLength};
-ghost use Rattle.phrases.specs.PhraseAlign.{alignPhrases};
-ghost use Rattle.phrase_align.specs.Calls.{output, accepted, alignCall};
+ghost use Rattle.phrase_align.specs.PhraseAlign.{alignPhrases, output, accepted, alignCall};
 ghost use Rattle.phrase_align.specs.declared.Answer.the-variants.{Accepted};
 use base::Refusal;
 use base::Rule;
+
+pub mod place;
 
 // What the call answers: the words placed, or why it refuses.
 pub enum Answer {
@@ -28,10 +29,19 @@ pub fn place_words(
     span_ends: &[f64],
     counts: &[u32],
 ) -> usize
-    requires { ⌜ (OneLength (length (now keys)) (words (now starts) (now ends) (now letters) (now units) (now keys))) × ((length (now keys) ≤ 4096) × ((length (now keys) ≤ length (now phrases)) × ((length (now «span_ends») ≡ length (now «span_starts»)) × ((length (now counts) ≡ length (now «span_starts»)) × (length (now «span_starts») ≤ 4096))))) ⌝ }
-    ensures { λ r. ⌜ output (Accepted r) (words (now (starts .exit)) (now (ends .exit)) (now (letters .exit)) (now (units .exit)) (now (keys .exit))) (now (phrases .exit)) ≡ accepted (alignPhrases (words (now (starts .entry)) (now (ends .entry)) (now (letters .entry)) (now (units .entry)) (now (keys .entry))) (spans (now («span_starts» .entry)) (now («span_ends» .entry)) (now (counts .entry)))) (length (now (keys .entry))) (now (phrases .entry)) ⌝ }
+    requires { ⌜ (OneLength (length (now keys)) (words (now starts) (now ends) (now letters) (now units) (now keys)))
+        × ((length (now keys) ≤ 4096)
+        × ((length (now keys) ≤ length (now phrases))
+        × ((length (now «span_ends») ≡ length (now «span_starts»))
+        × ((length (now counts) ≡ length (now «span_starts»)) × (length (now «span_starts») ≤ 4096))))) ⌝ }
+    ensures { λ r.
+        let before = words (now (starts .entry)) (now (ends .entry)) (now (letters .entry)) (now (units .entry)) (now (keys .entry)) in
+        let after = words (now (starts .exit)) (now (ends .exit)) (now (letters .exit)) (now (units .exit)) (now (keys .exit)) in
+        let allSpans = spans (now («span_starts» .entry)) (now («span_ends» .entry)) (now (counts .entry)) in
+        ⌜ output (Accepted r) after (now (phrases .exit))
+        ≡ accepted (alignPhrases before allSpans) (length (now (keys .entry))) (now (phrases .entry)) ⌝ }
 {
-    let at = placing::place_spans(
+    let at = place::place_spans(
         starts,
         ends,
         letters,
@@ -40,7 +50,7 @@ pub fn place_words(
         span_ends,
         counts,
     );
-    placing::number_words(phrases, at, keys.len(), 0);
+    place::number_words(phrases, at, keys.len(), 0);
     base::clear(starts, ends, letters, units, keys, at);
     at
 }
@@ -57,9 +67,13 @@ pub fn align_phrases(
     counts: &[u32],
     phrases: &mut [u32],
 ) -> Answer
-    ensures { λ r. ⌜ output r (words (now (starts .exit)) (now (ends .exit)) (now (letters .exit)) (now (units .exit)) (now (keys .exit))) (now (phrases .exit)) ≡ alignCall (words (now (starts .entry)) (now (ends .entry)) (now (letters .entry)) (now (units .entry)) (now (keys .entry))) (spans (now («span_starts» .entry)) (now («span_ends» .entry)) (now (counts .entry))) (now (phrases .entry)) ⌝ }
+    ensures { λ r.
+        let before = words (now (starts .entry)) (now (ends .entry)) (now (letters .entry)) (now (units .entry)) (now (keys .entry)) in
+        let after = words (now (starts .exit)) (now (ends .exit)) (now (letters .exit)) (now (units .exit)) (now (keys .exit)) in
+        let allSpans = spans (now («span_starts» .entry)) (now («span_ends» .entry)) (now (counts .entry)) in
+        ⌜ output r after (now (phrases .exit)) ≡ alignCall before allSpans (now (phrases .entry)) ⌝ }
 {
-    let rule = calls::spans_rule(
+    let rule = word_calls::spans_rule(
         starts,
         ends,
         letters,

@@ -17,8 +17,7 @@ use Rattle.base.specs.declared.Refusal.the-variants.{Time, Letters, Lengths, Co
 use Rattle.base.specs.declared.Rule.{Rule}
 use Rattle.base.specs.declared.Rule.the-variants.{Fine, Breaks}
 use Rattle.base.proofs.First.{First, breaks-first, first-breaks}
-use Rattle.levels.specs.Levels.{zeroF}
-use Rattle.envelope.specs.Levels.{quietRow}
+use Rattle.envelope.specs.Envelope.{zeroF, quietRow}
 use Rattle.pieces.specs.declared.Answer.the-variants.{Accepted, Refused}
 use Rattle.pieces.specs.Pieces.{Piece, pieces, pieceCount, need, pieceTurn, walked, tests, Output, output, accepted, byRule, piecesCall}
 use Rattle.pieces.specs.Parts.{Ready}

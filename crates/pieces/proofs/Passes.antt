@@ -10,9 +10,8 @@ use native.Mathlib.Numerals.{add-one}
 use lib.ListN.{length, set, length-set, length-map}
 use lib.Seq.{sets, sets-eq}
 use lib.Ieee.{Float, le}
-use Rattle.envelope.specs.Levels.{quietRow}
-use Rattle.cuts.specs.Pieces.{maxFrames, cut}
-use Rattle.pieces.specs.Pieces.{Piece, over, pieces, pieceCount, need}
+use Rattle.envelope.specs.Envelope.{quietRow}
+use Rattle.pieces.specs.Pieces.{maxFrames, cut, Piece, over, pieces, pieceCount, need}
 use Rattle.pieces.specs.Parts.{Ready}
 use Rattle.pieces.proofs.Walk.{inner, final, left, left-past, left-near, left-far, left-some, pieces-left, count-needs}
 

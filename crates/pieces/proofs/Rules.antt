@@ -15,8 +15,8 @@ use Rattle.base.specs.declared.Refusal.the-variants.{Counts, Levels, Places}
 use Rattle.base.specs.declared.Rule.{Rule}
 use Rattle.base.specs.declared.Rule.the-variants.{Fine, Breaks}
 use Rattle.base.proofs.First.{None, fine-none, none-fine}
-use Rattle.size_tests.specs.Limits.{manySamples, otherLevels, fewPlaces}
-use Rattle.envelope.specs.Levels.{quietRow}
+use Rattle.limits.specs.Limits.{manySamples, otherLevels, fewPlaces}
+use Rattle.envelope.specs.Envelope.{quietRow}
 use Rattle.pieces.specs.declared.Answer.the-variants.{Accepted, Refused}
 use Rattle.pieces.specs.Pieces.{pieces, pieceCount, need, tests, Output, output, accepted, piecesCall}
 use Rattle.pieces.specs.Parts.{Ready, startsOver, endsOver}

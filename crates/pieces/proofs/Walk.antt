@@ -13,10 +13,9 @@ use lib.IntN.{ℤ, pos, sucℤ}
 use lib.ListN.{length}
 use Rattle.base.specs.Loop.{Turn, on, out, run}
 use Rattle.base.proofs.Loops.{run-out}
-use Rattle.levels.specs.Levels.{hop}
-use Rattle.cuts.specs.Pieces.{maxFrames, cut}
-use Rattle.pieces.specs.Pieces.{Piece, State, push, last, pieceTurn, walked, pieces, pieceCount, need}
-use Rattle.cuts.proofs.Cuts.{cut-beyond}
+use Rattle.envelope.specs.Envelope.{hop}
+use Rattle.pieces.specs.Pieces.{maxFrames, cut, Piece, State, push, last, pieceTurn, walked, pieces, pieceCount, need}
+use Rattle.pieces.proofs.Cuts.{cut-beyond}
 
 or-no : (b : Bool) {c : Bool} → c ≡ false → (b || c) ≡ b
 or-no true e = refl

@@ -4,14 +4,14 @@ ghost use mathlib.Core.Bool.{_||_};
 ghost use Prim.Native.Nat.{_+_, _<_};
 ghost use lib.ListN.{length};
 ghost use Rattle.base.specs.Refusals.{first};
-ghost use Rattle.size_tests.specs.Limits.{fewPlaces};
-ghost use Rattle.envelope.specs.Levels.{quietRow};
-ghost use Rattle.cuts.specs.Pieces.{cut};
-ghost use Rattle.pieces.specs.Pieces.{pieces, pieceCount, need, tests, output, accepted, piecesCall};
+ghost use Rattle.limits.specs.Limits.{fewPlaces};
+ghost use Rattle.envelope.specs.Envelope.{quietRow};
+ghost use Rattle.pieces.specs.Pieces.{cut, pieces, pieceCount, need, tests, output, accepted, piecesCall};
 ghost use Rattle.pieces.specs.Parts.{Ready, startsOver, endsOver};
 use base::Refusal;
 use base::Rule;
 
+pub mod cut;
 pub mod view;
 
 // The most frames in one piece: 20 s.
@@ -35,7 +35,7 @@ pub fn count_pieces(levels: &[f64], floor: f64) -> usize
         if levels.len() - from <= MAX_FRAMES {
             return n + 1;
         }
-        from = cuts::find_cut(levels, floor, from);
+        from = cut::find_cut(levels, floor, from);
         n += 1;
     }
     n
@@ -50,7 +50,10 @@ pub fn write_pieces(
     ends: &mut [usize],
 )
     requires { ⌜ Ready (length (now levels)) count (length (now starts)) (length (now ends)) ⌝ }
-    ensures { λ _. ⌜ (now (starts .exit) ≡ startsOver (pieces (quietRow floor (now (levels .entry))) count) (now (starts .entry))) × (now (ends .exit) ≡ endsOver (pieces (quietRow floor (now (levels .entry))) count) (now (ends .entry))) ⌝ }
+    ensures { λ _.
+        let quietFrames = quietRow floor (now (levels .entry)) in
+        ⌜ (now (starts .exit) ≡ startsOver (pieces quietFrames count) (now (starts .entry)))
+        × (now (ends .exit) ≡ endsOver (pieces quietFrames count) (now (ends .entry))) ⌝ }
 {
     let mut from = 0;
     let mut n = 0;
@@ -60,7 +63,7 @@ pub fn write_pieces(
             ends[n] = count;
             return;
         }
-        let cut = cuts::find_cut(levels, floor, from);
+        let cut = cut::find_cut(levels, floor, from);
         starts[n] = from * HOP;
         ends[n] = cut * HOP;
         from = cut;
@@ -83,20 +86,20 @@ fn short_of_places(frames: usize, starts: usize, ends: usize) -> bool
     ensures { λ r. ⌜ r ≡ (fewPlaces starts (need frames) || fewPlaces ends (need frames)) ⌝ }
 {
     let places = places_needed(frames);
-    if size_tests::few_places(starts, places) {
+    if limits::sizes::few_places(starts, places) {
         return true;
     }
-    size_tests::few_places(ends, places)
+    limits::sizes::few_places(ends, places)
 }
 
 // The first refusal that applies, of 4, 7, 6; a cut is always beyond its piece's start, so that 8 never does.
 fn judge(levels: &[f64], floor: f64, count: usize, starts: &[usize], ends: &[usize]) -> Rule
     ensures { λ r. ⌜ r ≡ first (tests (now (levels .entry)) floor count (length (now (starts .entry))) (length (now (ends .entry)))) ⌝ }
 {
-    if size_tests::many_samples(count) {
+    if limits::sizes::many_samples(count) {
         return Rule::Breaks(Refusal::Counts);
     }
-    if size_tests::other_levels(levels.len(), count) {
+    if limits::sizes::other_levels(levels.len(), count) {
         return Rule::Breaks(Refusal::Levels);
     }
     if short_of_places(levels.len(), starts.len(), ends.len()) {
@@ -114,7 +117,10 @@ fn accept(
     ends: &mut [usize],
 ) -> Answer
     requires { ⌜ Ready (length (now levels)) count (length (now starts)) (length (now ends)) ⌝ }
-    ensures { λ r. ⌜ output r (now (starts .exit)) (now (ends .exit)) ≡ accepted (pieces (quietRow floor (now (levels .entry))) count) (now (starts .entry)) (now (ends .entry)) ⌝ }
+    ensures { λ r.
+        let quietFrames = quietRow floor (now (levels .entry)) in
+        ⌜ output r (now (starts .exit)) (now (ends .exit))
+        ≡ accepted (pieces quietFrames count) (now (starts .entry)) (now (ends .entry)) ⌝ }
 {
     let n = count_pieces(levels, floor);
     write_pieces(levels, floor, count, starts, ends);
@@ -129,7 +135,9 @@ pub fn pieces_at(
     starts: &mut [usize],
     ends: &mut [usize],
 ) -> Answer
-    ensures { λ r. ⌜ output r (now (starts .exit)) (now (ends .exit)) ≡ piecesCall (now (levels .entry)) floor count (now (starts .entry)) (now (ends .entry)) ⌝ }
+    ensures { λ r.
+        ⌜ output r (now (starts .exit)) (now (ends .exit))
+        ≡ piecesCall (now (levels .entry)) floor count (now (starts .entry)) (now (ends .entry)) ⌝ }
 {
     let rule = judge(levels, floor, count, starts, ends);
     match rule {

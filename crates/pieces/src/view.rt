@@ -6,7 +6,9 @@ use envelope::view::Envelope;
 
 // The pieces of the recording whose envelope is e (pieces.rs, pieces).
 pub fn pieces<'a>(e: Envelope<'a>, starts: &mut [usize], ends: &mut [usize]) -> Answer
-    ensures { λ r. ⌜ output r (now (starts .exit)) (now (ends .exit)) ≡ piecesCall (now (e .entry .levels)) (e .entry .floor) (e .entry .count) (now (starts .entry)) (now (ends .entry)) ⌝ }
+    ensures { λ r.
+        ⌜ output r (now (starts .exit)) (now (ends .exit))
+        ≡ piecesCall (now (e .entry .levels)) (e .entry .floor) (e .entry .count) (now (starts .entry)) (now (ends .entry)) ⌝ }
 {
     super::pieces_at(e.levels, e.floor, e.count, starts, ends)
 }

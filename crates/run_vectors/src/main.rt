@@ -262,10 +262,10 @@ fn add(tally: &mut [u64; 5], at: usize) {
 
 // Counts a row, and counts it as wrong where its answer is.
 fn judge(row: &[u8; 53], compared: &mut [u64; 5], wrong: &mut [u64; 5]) {
-    let a = rows::number(row, 2);
-    let b = rows::number(row, 19);
-    let r = rows::number(row, 36);
-    if (a.seen | b.seen | r.seen) > 15 || !rows::is_spaced(row) {
+    let a = vector_rows::number(row, 2);
+    let b = vector_rows::number(row, 19);
+    let r = vector_rows::number(row, 36);
+    if (a.seen | b.seen | r.seen) > 15 || !vector_rows::is_spaced(row) {
         add(compared, UNREADABLE);
         return;
     }

@@ -30,7 +30,10 @@ pub fn share(
     from: f64,
 )
     requires { ⌜ (length (now starts) ≡ length (now letters)) × (length (now ends) ≡ length (now letters)) ⌝ }
-    ensures { λ _. ⌜ edges (now (starts .exit)) (now (ends .exit)) ≡ shareOut (now (letters .entry)) room total from (edges (now (starts .entry)) (now (ends .entry))) ⌝ }
+    ensures { λ _.
+        let before = edges (now (starts .entry)) (now (ends .entry)) in
+        let after = edges (now (starts .exit)) (now (ends .exit)) in
+        ⌜ after ≡ shareOut (now (letters .entry)) room total from before ⌝ }
 {
     let mut t = from;
     let mut i = 0;

@@ -9,9 +9,7 @@ use lib.ListN.{length}
 use lib.Ieee.{Float}
 use Rattle.base.specs.Words.{Edges, times, timesAt, setTimes}
 use Rattle.js.specs.Js.{jsMax}
-use Rattle.inside.specs.Spread.{inside, firstInside, lastInside}
-use Rattle.spreads.specs.Spread.{spread, spreadBefore, spreadAfter}
-use Rattle.spread.specs.Spread.{betweenTurn, placeBetween, placeGroup}
+use Rattle.spread.specs.Spread.{inside, firstInside, lastInside, spread, spreadBefore, spreadAfter, betweenTurn, placeBetween, placeGroup}
 use Rattle.spread.specs.Parts.{placeAround}
 
 -- ---- a word between inside ones

@@ -10,9 +10,7 @@ use Rattle.base.specs.Words.{Edges, timesAt, partEdges}
 use Rattle.base.proofs.Loops.{each-keeps}
 use Rattle.base.proofs.Parts.{long, both, onPart-long}
 use Rattle.share.proofs.Long.{share-long}
-use Rattle.inside.specs.Spread.{inside, firstInside}
-use Rattle.spreads.specs.Spread.{spread, spreadBefore, spreadAfter}
-use Rattle.spread.specs.Spread.{betweenTurn, placeBetween, placeGroup}
+use Rattle.spread.specs.Spread.{inside, firstInside, spread, spreadBefore, spreadAfter, betweenTurn, placeBetween, placeGroup}
 
 pub spread-long : (letters : List ℕ) (from to : Float) (es : Edges) → long (spread letters from to es) ≡ long es
 unfolding spread

@@ -16,9 +16,7 @@ use Rattle.base.specs.declared.Times.{Times}
 use Rattle.base.proofs.Loops.{each-holds, up-seen, down-seen, down-le}
 use Rattle.base.proofs.Parts.{long, onPart-before, onPart-after}
 use Rattle.js.specs.Js.{jsMax}
-use Rattle.inside.specs.Spread.{inside, outsideAt, firstInside, lastInside}
-use Rattle.spreads.specs.Spread.{spread, spreadBefore, spreadAfter}
-use Rattle.spread.specs.Spread.{betweenTurn, placeBetween, placeGroup}
+use Rattle.spread.specs.Spread.{inside, outsideAt, firstInside, lastInside, spread, spreadBefore, spreadAfter, betweenTurn, placeBetween, placeGroup}
 use Rattle.spread.proofs.Long.{spread-long, before-long}
 
 last-in : (from to : Float) (es : Edges) → 0 < length (es .starts) → lastInside from to es < length (es .starts)

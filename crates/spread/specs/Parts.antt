@@ -3,9 +3,7 @@ use Prim.Native.Nat.{ℕ}
 use mathlib.Core.List.{List}
 use lib.Ieee.{Float}
 use Rattle.base.specs.Words.{Edges}
-use Rattle.inside.specs.Spread.{lastInside}
-use Rattle.spreads.specs.Spread.{spreadBefore, spreadAfter}
-use Rattle.spread.specs.Spread.{placeBetween}
+use Rattle.spread.specs.Spread.{lastInside, spreadBefore, spreadAfter, placeBetween}
 
 -- ---- The words of a phrase of which word `first` is the first inside one.
 unfoldable pub placeAround : List ℕ → Float → Float → ℕ → Edges → Edges

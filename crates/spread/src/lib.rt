@@ -6,6 +6,9 @@ ghost use Rattle.base.specs.Words.{edges};
 ghost use Rattle.spread.specs.Spread.{betweenTurn, placeBetween, placeGroup};
 ghost use Rattle.spread.specs.Parts.{placeAround};
 
+pub mod by_letters;
+pub mod inside;
+
 // Puts word i between its neighbours, where it is not inside.
 fn place_stray(starts: &mut [f64], ends: &mut [f64], from: f64, to: f64, i: usize)
     requires { ⌜ (0 < i) × ((i + 1 < length (now starts)) × (length (now ends) ≡ length (now starts))) ⌝ }
@@ -30,7 +33,10 @@ fn place_between(
     last: usize,
 )
     requires { ⌜ (first < length (now starts)) × ((last < length (now starts)) × (length (now ends) ≡ length (now starts))) ⌝ }
-    ensures { λ _. ⌜ edges (now (starts .exit)) (now (ends .exit)) ≡ placeBetween from to first last (edges (now (starts .entry)) (now (ends .entry))) ⌝ }
+    ensures { λ _.
+        let before = edges (now (starts .entry)) (now (ends .entry)) in
+        let after = edges (now (starts .exit)) (now (ends .exit)) in
+        ⌜ after ≡ placeBetween from to first last before ⌝ }
 {
     let mut i = first + 1;
     while i < last {
@@ -48,24 +54,31 @@ fn place_around(
     to: f64,
     first: usize,
 )
-    requires { ⌜ (length (now starts) ≡ length (now letters)) × ((length (now ends) ≡ length (now letters)) × ((length (now letters) ≤ 4096) × (first < length (now letters)))) ⌝ }
-    ensures { λ _. ⌜ edges (now (starts .exit)) (now (ends .exit)) ≡ placeAround (now (letters .entry)) from to first (edges (now (starts .entry)) (now (ends .entry))) ⌝ }
+    requires { ⌜ (length (now starts) ≡ length (now letters))
+        × ((length (now ends) ≡ length (now letters)) × ((length (now letters) ≤ 4096) × (first < length (now letters)))) ⌝ }
+    ensures { λ _.
+        let before = edges (now (starts .entry)) (now (ends .entry)) in
+        let after = edges (now (starts .exit)) (now (ends .exit)) in
+        ⌜ after ≡ placeAround (now (letters .entry)) from to first before ⌝ }
 {
     let last = inside::last_inside(starts, ends, from, to);
-    spreads::spread_before(starts, ends, letters, from, first);
-    spreads::spread_after(starts, ends, letters, to, last);
+    by_letters::spread_before(starts, ends, letters, from, first);
+    by_letters::spread_after(starts, ends, letters, to, last);
     place_between(starts, ends, from, to, first, last);
 }
 
 // Places the words of one phrase in its span.
 pub fn place_group(starts: &mut [f64], ends: &mut [f64], letters: &[u32], from: f64, to: f64)
     requires { ⌜ (length (now starts) ≡ length (now letters)) × ((length (now ends) ≡ length (now letters)) × (length (now letters) ≤ 4096)) ⌝ }
-    ensures { λ _. ⌜ edges (now (starts .exit)) (now (ends .exit)) ≡ placeGroup (now (letters .entry)) from to (edges (now (starts .entry)) (now (ends .entry))) ⌝ }
+    ensures { λ _.
+        let before = edges (now (starts .entry)) (now (ends .entry)) in
+        let after = edges (now (starts .exit)) (now (ends .exit)) in
+        ⌜ after ≡ placeGroup (now (letters .entry)) from to before ⌝ }
 {
     let first = inside::first_inside(starts, ends, from, to);
     if first < letters.len() {
         place_around(starts, ends, letters, from, to, first);
         return;
     }
-    spreads::spread(starts, ends, letters, from, to);
+    by_letters::spread(starts, ends, letters, from, to);
 }

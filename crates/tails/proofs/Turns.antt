@@ -6,9 +6,8 @@ use mathlib.Core.Path.{_≡_, _∙_}
 use lib.ListN.{getD}
 use lib.Ieee.{Float, nan}
 use Rattle.base.specs.Words.{Edges, edges, times}
-use Rattle.word_tail.specs.Tails.{tailOf, handBack}
-use Rattle.tails.specs.Tails.{tailTurn}
-use Rattle.word_tail.specs.declared.Tail.{Tail}
+use Rattle.tails.specs.Tails.{tailOf, handBack, tailTurn}
+use Rattle.tails.specs.declared.one_word.Tail.{Tail}
 
 module _ (t : Tail) (i : ℕ) (starts ends : List Float) where
   pub tail-turn : {es : Edges} (row : List Bool) (letters : List ℕ)

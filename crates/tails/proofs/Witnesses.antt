@@ -13,14 +13,12 @@ use Rattle.base.specs.Loop.{each, run}
 use Rattle.base.specs.declared.Refusal.the-variants.{Time, Letters, Lengths, Counts, Levels}
 use Rattle.js.specs.Js.{under, jsMax}
 use Rattle.frames.specs.Frames.{floorI64, frameAt, frameSeconds}
-use Rattle.envelope.specs.Levels.{loudRow}
-use Rattle.time_tests.specs.Limits.{timeOf}
-use Rattle.checks.specs.Limits.{any}
-use Rattle.checks.specs.Order.{inOrder, chain}
-use Rattle.calls.specs.Calls.{uneven, ofWords, withLevels, soundRule, output}
-use Rattle.checks.specs.declared.Answer.the-variants.{Accepted, Refused}
-use Rattle.word_tail.specs.Tails.{pastLoud, pastQuiet, tailOf, handBack}
-use Rattle.tails.specs.Tails.{tailTurn, handBackTails, tailsCall}
+use Rattle.envelope.specs.Envelope.{loudRow}
+use Rattle.limits.specs.Limits.{timeOf, any}
+use Rattle.limits.specs.Order.{inOrder, chain}
+use Rattle.word_calls.specs.Calls.{uneven, ofWords, withLevels, soundRule, output}
+use Rattle.limits.specs.declared.Answer.the-variants.{Accepted, Refused}
+use Rattle.tails.specs.Tails.{pastLoud, pastQuiet, tailOf, handBack, tailTurn, handBackTails, tailsCall}
 
 -- so many hundredths of a second
 abbrev time : ℕ → Float

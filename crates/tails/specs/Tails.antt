@@ -1,14 +1,73 @@
 -- onsets.rs, hand_back_tails, line by line. A `row` says which frames are loud; frames are whole numbers, as there. Assumes nothing.
-use Prim.Native.Nat.{ℕ, _-_}
-use mathlib.Core.Bool.{Bool}
+use Prim.Native.Nat.{ℕ, _+_, _-_}
+use mathlib.Core.Bool.{Bool, cond, not, _&&_, _||_}
 use mathlib.Core.List.{List}
-use lib.ListN.{getD, length}
-use lib.Ieee.{Float}
-use Rattle.base.specs.Loop.{each}
-use Rattle.base.specs.Words.{Words, Edges, edges, timesAt}
-use Rattle.envelope.specs.Levels.{loudRow}
-use Rattle.calls.specs.Calls.{soundRule, Output, moved}
-use Rattle.word_tail.specs.Tails.{tailOf, handBack}
+use lib.Dec.{ltb}
+use lib.IntN.{ℤ, pos, sucℤ, _+ℤ_, _-ℤ_}
+use lib.Signed.{ltZ}
+use lib.ListN.{getD, set, length}
+use lib.Ieee.{Float, nan, binary64, ofBits, le}
+use Rattle.base.specs.Loop.{Turn, on, out, range, each}
+use Rattle.base.specs.Floats.{_⊖_, _⊗_, num}
+use Rattle.base.specs.Words.{Edges, edges, edgeQuiet, loose, Words, timesAt}
+use Rattle.base.specs.declared.Times.{Times}
+use Rattle.js.specs.Js.{jsMax}
+use Rattle.frames.specs.Frames.{frameAt, frameSeconds}
+use Rattle.envelope.specs.Envelope.{loud, loudRow}
+use Rattle.tails.specs.declared.one_word.Tail.{Tail}
+use Rattle.tails.specs.declared.one_word.Tail.the-variants.{Keeps, Hands}
+use Rattle.word_calls.specs.Calls.{soundRule, Output, moved}
+
+-- ======== One word.
+
+-- ---- MIN_LETTER, 0.05 s: a letter takes no less.
+abbrev pub minLetter : Float
+minLetter = ofBits binary64 0x3fa9_9999_9999_999a
+
+-- ---- let mut k = f; while k < bound && env.loud(k) { k += 1; }
+abbrev pub loudTurn : List Bool → ℤ → ℤ → Turn ℤ
+loudTurn row k _ = cond (loud row k) (on (sucℤ k)) (out k)
+
+unfoldable pub pastLoud : List Bool → ℤ → ℤ → ℤ
+pastLoud row f bound = range (loudTurn row) f bound f
+
+-- ---- let mut quiet = 0; while k < bound && !env.loud(k) { quiet += 1; k += 1; }
+pub record Quiet : Type 0 where
+  pub k : ℤ
+  pub quiet : ℕ
+
+abbrev pub quietTurn : List Bool → ℤ → Quiet → Turn Quiet
+quietTurn row k s = cond (loud row k) (out s) (on (record { k = sucℤ k; quiet = s .quiet + 1 }))
+
+unfoldable pub pastQuiet : List Bool → ℤ → ℤ → Quiet
+pastQuiet row k bound = range (quietTurn row) k bound (record { k = k; quiet = 0 })
+
+-- ---- (k..k + MIN_RUN).all(|j| j < bound && env.loud(j)): three loud frames, 30 ms, are a word's own sound.
+abbrev pub loudBefore : List Bool → ℤ → ℤ → Bool
+loudBefore row bound j = ltZ j bound && loud row j
+
+abbrev pub ownSound : List Bool → ℤ → ℤ → Bool
+ownSound row k bound = loudBefore row bound k && (loudBefore row bound (k +ℤ pos 1) && loudBefore row bound (k +ℤ pos 2))
+
+-- ---- One word: `Keeps` is a `continue`; `Hands` gives where the word before it ends at the least, and where the word starts.
+unfoldable pub tailOf : List Bool → Float → Times → ℕ → Tail
+tailOf row prevEnd w letters =
+    let f = frameAt (w .start) in
+    cond (le loose (w .start ⊖ prevEnd) || (not (loud row (f -ℤ pos 1)) || not (loud row f))) Keeps
+    (let bound = frameAt (w .end) in
+    let tailEnd = pastLoud row f bound in
+    let need = minLetter ⊗ num letters in
+    cond (le need (frameSeconds (tailEnd -ℤ f))) Keeps
+    (let q = pastQuiet row tailEnd bound in
+    cond (ltb (q .quiet) edgeQuiet || not (ownSound row (q .k) bound)) Keeps
+    (Hands (frameSeconds tailEnd) (frameSeconds (q .k)))))
+
+-- ---- prev.end = js_max(prev.end, frame_seconds(tail_end)); w.start = frame_seconds(k);
+unfoldable pub handBack : Tail → ℕ → Edges → Edges
+handBack Keeps i es = es
+handBack (Hands tailEnd start) i es = edges (set (es .starts) i start) (set (es .ends) (i - 1) (jsMax (getD (es .ends) (i - 1) nan) tailEnd))
+
+-- ======== All words, and the call.
 
 unfoldable pub tailTurn : List Bool → List ℕ → ℕ → Edges → Edges
 tailTurn row letters i es = handBack (tailOf row (timesAt es (i - 1) .end) (timesAt es i) (getD letters i 0)) i es

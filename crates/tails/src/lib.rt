@@ -3,17 +3,24 @@ ghost use mathlib.Core.Path.{_≡_};
 ghost use Prim.Native.Nat.{ℕ, _<_, _≤_, _^_};
 ghost use lib.ListN.{length, getD};
 ghost use Rattle.base.specs.Words.{words, edges};
-ghost use Rattle.envelope.specs.Levels.{loudRow};
-ghost use Rattle.calls.specs.Calls.{output};
+ghost use Rattle.envelope.specs.Envelope.{loudRow};
+ghost use Rattle.word_calls.specs.Calls.{output};
 ghost use Rattle.tails.specs.Tails.{handBackTails, tailsCall};
 use base::Rule;
 use base::Times;
-use checks::Answer;
+use limits::Answer;
+
+pub mod one_word;
 
 // Hands each tail of sound back to the word before, where a word starts on it (onsets.rs, hand_back_tails); nothing is checked.
 pub fn move_tails(starts: &mut [f64], ends: &mut [f64], letters: &[u32], levels: &[f64], floor: f64)
-    requires { ⌜ (length (now ends) ≡ length (now starts)) × ((length (now letters) ≡ length (now starts)) × ((length (now levels) ≤ 2 ^ 40) × ((i : ℕ) → getD (now letters) i 0 ≤ 1000))) ⌝ }
-    ensures { λ _. ⌜ edges (now (starts .exit)) (now (ends .exit)) ≡ handBackTails (loudRow floor (now (levels .entry))) (now (letters .entry)) (edges (now (starts .entry)) (now (ends .entry))) ⌝ }
+    requires { ⌜ (length (now ends) ≡ length (now starts))
+        × ((length (now letters) ≡ length (now starts))
+        × ((length (now levels) ≤ 2 ^ 40) × ((i : ℕ) → getD (now letters) i 0 ≤ 1000))) ⌝ }
+    ensures { λ _.
+        let before = edges (now (starts .entry)) (now (ends .entry)) in
+        let after = edges (now (starts .exit)) (now (ends .exit)) in
+        ⌜ after ≡ handBackTails (loudRow floor (now (levels .entry))) (now (letters .entry)) before ⌝ }
 {
     let mut i = 1;
     while i < starts.len() {
@@ -21,8 +28,8 @@ pub fn move_tails(starts: &mut [f64], ends: &mut [f64], letters: &[u32], levels:
             start: starts[i],
             end: ends[i],
         };
-        let t = word_tail::tail_of(levels, floor, ends[i - 1], w, letters[i]);
-        word_tail::hand_back(starts, ends, t, i);
+        let t = one_word::tail_of(levels, floor, ends[i - 1], w, letters[i]);
+        one_word::hand_back(starts, ends, t, i);
         i += 1;
     }
 }
@@ -38,9 +45,12 @@ pub fn hand_back_tails(
     floor: f64,
     count: usize,
 ) -> Answer
-    ensures { λ r. ⌜ output r (words (now (starts .exit)) (now (ends .exit)) (now (letters .entry)) (now (units .entry)) (now (keys .entry))) ≡ tailsCall (words (now (starts .entry)) (now (ends .entry)) (now (letters .entry)) (now (units .entry)) (now (keys .entry))) (now (levels .entry)) floor count ⌝ }
+    ensures { λ r.
+        let before = words (now (starts .entry)) (now (ends .entry)) (now (letters .entry)) (now (units .entry)) (now (keys .entry)) in
+        let after = words (now (starts .exit)) (now (ends .exit)) (now (letters .entry)) (now (units .entry)) (now (keys .entry)) in
+        ⌜ output r after ≡ tailsCall before (now (levels .entry)) floor count ⌝ }
 {
-    let rule = calls::sound_rule(starts, ends, letters, units, keys, levels.len(), count);
+    let rule = word_calls::sound_rule(starts, ends, letters, units, keys, levels.len(), count);
     match rule {
         Rule::Breaks(why) => Answer::Refused(why),
         Rule::Fine => {

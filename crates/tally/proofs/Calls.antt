@@ -11,11 +11,11 @@ use Rattle.base.specs.declared.Refusal.{Refusal}
 use Rattle.base.specs.declared.Rule.{Rule}
 use Rattle.base.specs.declared.Rule.the-variants.{Fine, Breaks}
 use Rattle.base.proofs.First.{First, fine-none, none-fine, breaks-first, first-breaks}
-use Rattle.checks.specs.Order.{inOrder, chain}
-use Rattle.checks.specs.declared.Answer.the-variants.{Accepted, Refused}
-use Rattle.calls.specs.Calls.{phrasesRule}
-use Rattle.calls.proofs.Moved.{PhrasesWithin, phrasesApplies, within-phrases, phrases-fine, few-levels}
-use Rattle.envelope.specs.Levels.{loudRow}
+use Rattle.limits.specs.Order.{inOrder, chain}
+use Rattle.limits.specs.declared.Answer.the-variants.{Accepted, Refused}
+use Rattle.word_calls.specs.Calls.{phrasesRule}
+use Rattle.word_calls.proofs.Moved.{PhrasesWithin, phrasesApplies, within-phrases, phrases-fine, few-levels}
+use Rattle.envelope.specs.Envelope.{loudRow}
 use Rattle.tally.specs.Tally.{tallies, output, byRule, tallyCall}
 use Rattle.tally.specs.Parts.{zeros}
 use Rattle.tally.proofs.Sums.{zeros-first, zeros-behind, zeros-room}

@@ -17,7 +17,7 @@ use Rattle.base.specs.declared.Times.{Times}
 use Rattle.base.proofs.Loops.{each-last}
 use Rattle.frames.specs.Frames.{frameAt, frameFromZero}
 use Rattle.frames.proofs.Indices.{fromZero-nat}
-use Rattle.envelope.specs.Levels.{loudRow}
+use Rattle.envelope.specs.Envelope.{loudRow}
 use Rattle.envelope.proofs.Scan.{length-row}
 use Rattle.tally.specs.Tally.{covers, coverTurn, loudUnder}
 use Rattle.tally.specs.Parts.{loudTurn, loudBetween}

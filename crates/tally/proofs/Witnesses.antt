@@ -13,12 +13,11 @@ use Rattle.base.specs.Words.{Words, words, Spans, spans}
 use Rattle.base.specs.Loop.{each, table}
 use Rattle.base.specs.declared.Refusal.the-variants.{Time, Letters, Lengths, Counts, Levels, Places}
 use Rattle.frames.specs.Frames.{floorI64, frameAt, frameFromZero}
-use Rattle.envelope.specs.Levels.{loudRow}
-use Rattle.checks.specs.Limits.{any}
-use Rattle.time_tests.specs.Limits.{timeOf}
-use Rattle.checks.specs.Order.{inOrder, chain}
-use Rattle.checks.specs.declared.Answer.the-variants.{Accepted, Refused}
-use Rattle.calls.specs.Calls.{uneven, ofWords, withLevels, withList, unevenSpans, manySpans, withSpans, withPlaces, phrasesRule}
+use Rattle.envelope.specs.Envelope.{loudRow}
+use Rattle.limits.specs.Limits.{any, timeOf}
+use Rattle.limits.specs.Order.{inOrder, chain}
+use Rattle.limits.specs.declared.Answer.the-variants.{Accepted, Refused}
+use Rattle.word_calls.specs.Calls.{uneven, ofWords, withLevels, withList, unevenSpans, manySpans, withSpans, withPlaces, phrasesRule}
 use Rattle.tally.specs.Tally.{covers, coverTurn, loudUnder, spanTurn, spanTally, tallies, Output, output, tallyCall}
 
 -- so many hundredths of a second

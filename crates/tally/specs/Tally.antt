@@ -12,10 +12,10 @@ use Rattle.base.specs.declared.Times.{Times}
 use Rattle.base.specs.declared.Rule.{Rule}
 use Rattle.base.specs.declared.Rule.the-variants.{Fine, Breaks}
 use Rattle.frames.specs.Frames.{frameFromZero}
-use Rattle.envelope.specs.Levels.{loudRow}
-use Rattle.checks.specs.declared.Answer.{Answer}
-use Rattle.checks.specs.declared.Answer.the-variants.{Accepted, Refused}
-use Rattle.calls.specs.Calls.{phrasesRule}
+use Rattle.envelope.specs.Envelope.{loudRow}
+use Rattle.limits.specs.declared.Answer.{Answer}
+use Rattle.limits.specs.declared.Answer.the-variants.{Accepted, Refused}
+use Rattle.word_calls.specs.Calls.{phrasesRule}
 
 -- ---- "the loud frames from start's frame to before end's frame, both from zero": whether a word lies over frame k.
 unfoldable pub covers : Times → ℕ → Bool

@@ -4,12 +4,12 @@ ghost use mathlib.Core.List.{_++_};
 ghost use Prim.Native.Nat.{_+_, _<_, _≤_, _^_};
 ghost use lib.ListN.{length, getD, take, drop};
 ghost use Rattle.base.specs.Words.{words, spans, edges};
-ghost use Rattle.envelope.specs.Levels.{loudRow};
+ghost use Rattle.envelope.specs.Envelope.{loudRow};
 ghost use Rattle.tally.specs.Tally.{loudUnder, tallies, output, tallyCall};
 ghost use Rattle.tally.specs.Parts.{loudTurn, loudBetween, addedAt, zeros};
 use base::Rule;
 use base::Times;
-use checks::Answer;
+use limits::Answer;
 
 // One frame more, where frame k is loud.
 fn counted(levels: &[f64], floor: f64, k: usize, n: usize) -> usize
@@ -79,8 +79,14 @@ fn add_words(
     n: usize,
     places: &mut [usize],
 )
-    requires { ⌜ (length (now levels) ≤ 2 ^ 40) × ((length (now starts) ≤ 4096) × ((length (now ends) ≡ length (now starts)) × ((length (now phrases) ≡ length (now starts)) × ((n ≤ length (now places)) × (take n (now places) ≡ zeros n))))) ⌝ }
-    ensures { λ _. ⌜ now (places .exit) ≡ tallies (loudRow floor (now (levels .entry))) (now (phrases .entry)) (edges (now (starts .entry)) (now (ends .entry))) n ++ drop n (now (places .entry)) ⌝ }
+    requires { ⌜ (length (now levels) ≤ 2 ^ 40)
+        × ((length (now starts) ≤ 4096)
+        × ((length (now ends) ≡ length (now starts))
+        × ((length (now phrases) ≡ length (now starts)) × ((n ≤ length (now places)) × (take n (now places) ≡ zeros n))))) ⌝ }
+    ensures { λ _.
+        let before = edges (now (starts .entry)) (now (ends .entry)) in
+        ⌜ now (places .exit)
+        ≡ tallies (loudRow floor (now (levels .entry))) (now (phrases .entry)) before n ++ drop n (now (places .entry)) ⌝ }
 {
     let mut i = 0;
     while i < starts.len() {
@@ -109,9 +115,13 @@ pub fn tally_at(
     counts: &[u32],
     places: &mut [usize],
 ) -> Answer
-    ensures { λ r. ⌜ output r (now (places .exit)) ≡ tallyCall (words (now (starts .entry)) (now (ends .entry)) (now (letters .entry)) (now (units .entry)) (now (keys .entry))) (now (phrases .entry)) (spans (now («span_starts» .entry)) (now («span_ends» .entry)) (now (counts .entry))) (now (levels .entry)) floor count (now (places .entry)) ⌝ }
+    ensures { λ r.
+        let before = words (now (starts .entry)) (now (ends .entry)) (now (letters .entry)) (now (units .entry)) (now (keys .entry)) in
+        let allSpans = spans (now («span_starts» .entry)) (now («span_ends» .entry)) (now (counts .entry)) in
+        ⌜ output r (now (places .exit))
+        ≡ tallyCall before (now (phrases .entry)) allSpans (now (levels .entry)) floor count (now (places .entry)) ⌝ }
 {
-    let rule = calls::phrases_rule(
+    let rule = word_calls::phrases_rule(
         starts,
         ends,
         letters,

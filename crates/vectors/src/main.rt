@@ -15,7 +15,7 @@
 //       that the output shows that a wrong answer is seen
 use libc::STDIN_FILENO;
 use libc::STDOUT_FILENO;
-use rows::Digits;
+use vector_rows::Digits;
 
 // The most frames of a row of pieces.
 const FRAMES: usize = 2048;
@@ -40,7 +40,7 @@ fn place(kind: u8) -> usize {
         b'P' => 8,
         b'X' => 9,
         b'Y' => 10,
-        _ => rows::UNREADABLE,
+        _ => vector_rows::UNREADABLE,
     }
 }
 
@@ -89,14 +89,14 @@ fn is_cut(a: u64, b: u64, r: u64) -> bool {
 // Whether r is the answer for a and b, for each kind of row.
 fn is_right(kind: u8, a: u64, b: u64, r: u64) -> bool {
     match kind {
-        b'F' | b'X' => rows::same(js::js_to_fixed(rows::float(a)), r),
-        b'L' => rows::same(js::js_min(rows::float(a), rows::float(b)), r),
-        b'H' => rows::same(js::js_max(rows::float(a), rows::float(b)), r),
-        b'S' => rows::same(roots::sqrt(rows::float(a)), r),
-        b'A' | b'Y' => frames::frame_at(rows::float(a)) == rows::signed(r),
-        b'C' => frames::frame_ceil(rows::float(a)) == rows::signed(r),
-        b'Z' => frames::frame_from_zero(rows::float(a)) == rows::signed(r),
-        b'T' => rows::same(frames::frame_seconds(rows::signed(a)), r),
+        b'F' | b'X' => vector_rows::same(js::js_to_fixed(vector_rows::float(a)), r),
+        b'L' => vector_rows::same(js::js_min(vector_rows::float(a), vector_rows::float(b)), r),
+        b'H' => vector_rows::same(js::js_max(vector_rows::float(a), vector_rows::float(b)), r),
+        b'S' => vector_rows::same(roots::sqrt(vector_rows::float(a)), r),
+        b'A' | b'Y' => frames::frame_at(vector_rows::float(a)) == vector_rows::signed(r),
+        b'C' => frames::frame_ceil(vector_rows::float(a)) == vector_rows::signed(r),
+        b'Z' => frames::frame_from_zero(vector_rows::float(a)) == vector_rows::signed(r),
+        b'T' => vector_rows::same(frames::frame_seconds(vector_rows::signed(a)), r),
         b'P' => is_cut(a, b, r),
         _ => false,
     }
@@ -113,23 +113,23 @@ fn has_second(kind: u8) -> bool {
 // The second input, or 0 where the kind has none.
 fn second(row: &[u8; 53]) -> Digits {
     if has_second(row[0]) {
-        return rows::number(row, 19);
+        return vector_rows::number(row, 19);
     }
     Digits { bits: 0, seen: 0 }
 }
 
 // Counts a row, and counts it as wrong where its answer is.
 fn judge(row: &[u8; 53], compared: &mut [u64; 12], wrong: &mut [u64; 12]) {
-    let a = rows::number(row, 2);
+    let a = vector_rows::number(row, 2);
     let b = second(row);
-    let r = rows::number(row, 36);
-    if (a.seen | b.seen | r.seen) > 15 || !rows::is_spaced(row) {
-        rows::add(compared, rows::UNREADABLE);
+    let r = vector_rows::number(row, 36);
+    if (a.seen | b.seen | r.seen) > 15 || !vector_rows::is_spaced(row) {
+        vector_rows::add(compared, vector_rows::UNREADABLE);
         return;
     }
-    rows::add(compared, place(row[0]));
+    vector_rows::add(compared, place(row[0]));
     if !is_right(row[0], a.bits, b.bits, r.bits) {
-        rows::add(wrong, place(row[0]));
+        vector_rows::add(wrong, place(row[0]));
     }
 }
 
@@ -141,7 +141,7 @@ fn take_row(compared: &mut [u64; 12], wrong: &mut [u64; 12]) -> bool {
         return false;
     }
     if n < 53 {
-        rows::add(compared, rows::UNREADABLE);
+        vector_rows::add(compared, vector_rows::UNREADABLE);
         return false;
     }
     judge(&row, compared, wrong);
@@ -197,6 +197,6 @@ fn main() {
     print_line(b"pieces ", compared[8], wrong[8]);
     print_planted(&compared, &wrong);
     io::write_all(STDOUT_FILENO, b"unreadable ");
-    io::print_decimal(STDOUT_FILENO, compared[rows::UNREADABLE]);
+    io::print_decimal(STDOUT_FILENO, compared[vector_rows::UNREADABLE]);
     io::write_all(STDOUT_FILENO, b"\n");
 }

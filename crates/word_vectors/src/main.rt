@@ -76,7 +76,7 @@ fn place(kind: u8) -> usize {
         b'G' => 5,
         b'W' => 6,
         b'U' => 7,
-        _ => rows::UNREADABLE,
+        _ => vector_rows::UNREADABLE,
     }
 }
 
@@ -169,8 +169,8 @@ fn is_onset(levels: &[f64; 64], start: f64, r: u64) -> bool {
         SAMPLES,
     );
     match answer {
-        checks::Answer::Accepted => rows::same(starts[0], r),
-        checks::Answer::Refused(_) => false,
+        limits::Answer::Accepted => vector_rows::same(starts[0], r),
+        limits::Answer::Refused(_) => false,
     }
 }
 
@@ -191,8 +191,8 @@ fn is_end(levels: &[f64; 64], start: f64, r: u64) -> bool {
         DURATION,
     );
     match answer {
-        checks::Answer::Accepted => rows::same(ends[0], r),
-        checks::Answer::Refused(_) => false,
+        limits::Answer::Accepted => vector_rows::same(ends[0], r),
+        limits::Answer::Refused(_) => false,
     }
 }
 
@@ -213,15 +213,15 @@ fn is_handed_back(levels: &[f64; 64], start: f64, r: u64) -> bool {
         SAMPLES,
     );
     match answer {
-        checks::Answer::Accepted => rows::same(starts[1], r),
-        checks::Answer::Refused(_) => false,
+        limits::Answer::Accepted => vector_rows::same(starts[1], r),
+        limits::Answer::Refused(_) => false,
     }
 }
 
 // Whether r is the time that a stage leaves, for each kind of row with a recording.
 fn is_moved(kind: u8, start: f64, loud: u64, r: u64) -> bool {
     let mut levels = [0.0; 64];
-    rows::set_levels(&mut levels, loud);
+    vector_rows::set_levels(&mut levels, loud);
     match kind {
         b'E' => is_end(&levels, start, r),
         b'D' => is_handed_back(&levels, start, r),
@@ -269,12 +269,12 @@ fn is_time(starts: &[f64], ends: &[f64], asked: usize, r: u64) -> bool {
     let word = asked / 2;
     if asked % 2 == 0 {
         if word < starts.len() {
-            return rows::same(starts[word], r);
+            return vector_rows::same(starts[word], r);
         }
         return false;
     }
     if word < ends.len() {
-        return rows::same(ends[word], r);
+        return vector_rows::same(ends[word], r);
     }
     false
 }
@@ -306,8 +306,8 @@ fn is_evened(starts: &mut [f64], ends: &mut [f64], limit: f64, asked: usize, r: 
     let keys = [1u32; 7];
     let answer = even::even_out(starts, ends, &letters[..n], &units[..n], &keys[..n], limit);
     match answer {
-        checks::Answer::Accepted => is_time(starts, ends, asked, r),
-        checks::Answer::Refused(_) => false,
+        limits::Answer::Accepted => is_time(starts, ends, asked, r),
+        limits::Answer::Refused(_) => false,
     }
 }
 
@@ -400,7 +400,13 @@ fn is_timed(kind: u8, a: u64, b: u64, r: u64) -> bool {
     set_times(&mut ends, &digits, 3, 2, parts(kind));
     match kind {
         b'G' => is_placed(&mut starts[..n], &mut ends[..n], b, asked, r),
-        _ => is_evened(&mut starts[..n], &mut ends[..n], rows::float(b), asked, r),
+        _ => is_evened(
+            &mut starts[..n],
+            &mut ends[..n],
+            vector_rows::float(b),
+            asked,
+            r,
+        ),
     }
 }
 
@@ -408,7 +414,7 @@ fn is_timed(kind: u8, a: u64, b: u64, r: u64) -> bool {
 fn is_right(kind: u8, a: u64, b: u64, r: u64) -> bool {
     match kind {
         b'K' => is_collapsed(a, b as usize, r),
-        b'O' | b'E' | b'D' | b'W' => is_moved(kind, rows::float(a), b, r),
+        b'O' | b'E' | b'D' | b'W' => is_moved(kind, vector_rows::float(a), b, r),
         b'V' | b'G' | b'U' => is_timed(kind, a, b, r),
         _ => false,
     }
@@ -416,16 +422,16 @@ fn is_right(kind: u8, a: u64, b: u64, r: u64) -> bool {
 
 // Counts a row, and counts it as wrong where its answer is.
 fn judge(row: &[u8; 53], compared: &mut [u64; 12], wrong: &mut [u64; 12]) {
-    let a = rows::number(row, 2);
-    let b = rows::number(row, 19);
-    let r = rows::number(row, 36);
-    if (a.seen | b.seen | r.seen) > 15 || !rows::is_spaced(row) {
-        rows::add(compared, rows::UNREADABLE);
+    let a = vector_rows::number(row, 2);
+    let b = vector_rows::number(row, 19);
+    let r = vector_rows::number(row, 36);
+    if (a.seen | b.seen | r.seen) > 15 || !vector_rows::is_spaced(row) {
+        vector_rows::add(compared, vector_rows::UNREADABLE);
         return;
     }
-    rows::add(compared, place(row[0]));
+    vector_rows::add(compared, place(row[0]));
     if !is_right(row[0], a.bits, b.bits, r.bits) {
-        rows::add(wrong, place(row[0]));
+        vector_rows::add(wrong, place(row[0]));
     }
 }
 
@@ -437,7 +443,7 @@ fn take_row(compared: &mut [u64; 12], wrong: &mut [u64; 12]) -> bool {
         return false;
     }
     if n < 53 {
-        rows::add(compared, rows::UNREADABLE);
+        vector_rows::add(compared, vector_rows::UNREADABLE);
         return false;
     }
     judge(&row, compared, wrong);
@@ -490,6 +496,6 @@ fn main() {
     print_timed(&compared, &wrong);
     print_planted(&compared, &wrong);
     io::write_all(STDOUT_FILENO, b"unreadable ");
-    io::print_decimal(STDOUT_FILENO, compared[rows::UNREADABLE]);
+    io::print_decimal(STDOUT_FILENO, compared[vector_rows::UNREADABLE]);
     io::write_all(STDOUT_FILENO, b"\n");
 }

@@ -29,7 +29,10 @@ same-length-6 : tie.Need-same-length-6
 same-length-6 c = omega arith
 
 returns : tie.Need-returns
-returns c = placement-made _ _ (c .placed .ensures) (c .before .before .before .before .before .before .before .before .before .before .before .before .before .align-phrases .ensures)
+returns c =
+    let at12 = c .before .before .before .before .before .before .before .before .before .before .before .before in
+    let at13 = at12 .before in
+    placement-made _ _ (c .placed .ensures) (at13 .align-phrases .ensures)
 
 pub qiluvrait-align-phrases-spec : {M : Type 1} → statement M
 qiluvrait-align-phrases-spec =

@@ -26,7 +26,9 @@ same-length-5 : tie.Need-same-length-5
 same-length-5 c = omega arith
 
 returns : tie.Need-returns
-returns c = leaves-made _ (c .left .ensures) (c .before .before .before .before .before .before .before .before .before .before .before .collapse-loops .ensures)
+returns c =
+    let at11 = c .before .before .before .before .before .before .before .before .before .before .before in
+    leaves-made _ (c .left .ensures) (at11 .collapse-loops .ensures)
 
 pub qiluvrait-collapse-loops-spec : {M : Type 1} → statement M
 qiluvrait-collapse-loops-spec =

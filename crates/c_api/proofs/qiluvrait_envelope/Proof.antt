@@ -1,7 +1,7 @@
 -- `c_api::qiluvrait_envelope` meets its contract: what `envelope::envelope` answers and leaves. Assumes nothing.
 use native.Mathlib.Omega.{arith}
 use mathlib.Core.Path.{ap, _∙_}
-use Rattle.envelope.specs.Calls.{Output}
+use Rattle.envelope.specs.Envelope.{Output}
 use Rattle.c_api.specs.Answers.{heardOf}
 use Rattle.c_api.proofs.qiluvrait_envelope.Statement.{statement}
 use Rattle.c_api.proofs.qiluvrait_envelope.Tie as tie

@@ -16,16 +16,29 @@ same-length-2 : tie.Need-same-length-2
 same-length-2 c = c .before .before .before .before .before .before .before .before .before .before .before .fit-file-at .kept .1 .1 .1 .1 .0
 
 same-length-3 : tie.Need-same-length-3
-same-length-3 c = c .before .before .before .before .before .before .before .before .before .before .before .fit-file-at .kept .1 .1 .1 .1 .1 .1 .1 .1 .1 .1 .1 .1 .0
+same-length-3 c =
+    let at11 = c .before .before .before .before .before .before .before .before .before .before .before in
+    at11 .fit-file-at .kept .1 .1 .1 .1 .1 .1 .1 .1 .1 .1 .1 .1 .0
 
 same-length-4 : tie.Need-same-length-4
-same-length-4 c = c .before .before .before .before .before .before .before .before .before .before .before .fit-file-at .kept .1 .1 .1 .1 .1 .1 .1 .1 .1 .1 .1 .1 .1 .0
+same-length-4 c =
+    let at11 = c .before .before .before .before .before .before .before .before .before .before .before in
+    at11 .fit-file-at .kept .1 .1 .1 .1 .1 .1 .1 .1 .1 .1 .1 .1 .1 .0
 
 same-length-5 : tie.Need-same-length-5
-same-length-5 c = c .before .before .before .before .before .before .before .before .before .before .before .fit-file-at .kept .1 .1 .1 .1 .1 .1 .1 .1 .1 .1 .1 .1 .1 .1 .0
+same-length-5 c =
+    let at11 = c .before .before .before .before .before .before .before .before .before .before .before in
+    at11 .fit-file-at .kept .1 .1 .1 .1 .1 .1 .1 .1 .1 .1 .1 .1 .1 .1 .0
 
 returns : tie.Need-returns
-returns c = (reply-made _ (c .moved .ensures) (c .before .before .before .before .before .before .before .before .before .before .before .fit-file-at .ensures .0), (kept-made _ (c .moved .ensures) (c .before .before .before .before .before .before .before .before .before .before .before .fit-file-at .ensures .1 .0), (kept-made _ (c .moved .ensures) (c .before .before .before .before .before .before .before .before .before .before .before .fit-file-at .ensures .1 .1 .0), kept-made _ (c .moved .ensures) (c .before .before .before .before .before .before .before .before .before .before .before .fit-file-at .ensures .1 .1 .1))))
+returns c =
+    let at11 = c .before .before .before .before .before .before .before .before .before .before .before in (
+      reply-made _ (c .moved .ensures) (at11 .fit-file-at .ensures .0),
+      (
+        kept-made _ (c .moved .ensures) (at11 .fit-file-at .ensures .1 .0),
+        (kept-made _ (c .moved .ensures) (at11 .fit-file-at .ensures .1 .1 .0), kept-made _ (c .moved .ensures) (at11 .fit-file-at .ensures .1 .1 .1)),
+      ),
+    )
 
 pub qiluvrait-fit-file-spec : {M : Type 1} → statement M
 qiluvrait-fit-file-spec =

@@ -7,7 +7,7 @@ use lib.ListN.{length}
 use Rattle.base.specs.Loop.{each}
 use Rattle.base.specs.Words.{edges}
 use Rattle.base.proofs.Loops.{each-start, each-next, each-done}
-use Rattle.envelope.specs.Levels.{loudRow}
+use Rattle.envelope.specs.Envelope.{loudRow}
 use Rattle.ends.specs.Ends.{endTurn, snapEnds}
 use Rattle.ends.proofs.move_ends.Statement.{statement}
 use Rattle.ends.proofs.move_ends.Tie as tie
@@ -34,7 +34,10 @@ loop-less : tie.Need-loop-less Inv-loop μ-loop
 loop-less c = omega arith
 
 loop-again : tie.Need-loop-again Inv-loop μ-loop
-loop-again c = (search needs, (search needs, c .before .before .before .before .before .before .before .before .loop .inv .1 .1 ∙ each-next _ _ _ (omega arith) (c .before .before .before .before .snap-end .ensures)))
+loop-again c =
+    let at4 = c .before .before .before .before in
+    let at8 = at4 .before .before .before .before in
+    (search needs, (search needs, at8 .loop .inv .1 .1 ∙ each-next _ _ _ (omega arith) (at4 .snap-end .ensures)))
 
 same-length : tie.Need-same-length Inv-loop μ-loop
 same-length c = omega arith

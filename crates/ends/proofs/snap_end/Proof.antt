@@ -2,7 +2,7 @@
 use borrow.Author.Needs.{needs}
 use mathlib.Core.Path.{sym, _∙_}
 use native.Mathlib.Omega.{arith}
-use Rattle.word_end.proofs.OneWord.{pair-in}
+use Rattle.ends.proofs.OneWord.{pair-in}
 use Rattle.ends.proofs.Turns.{turn-pair, turn-end}
 use Rattle.ends.proofs.snap_end.Statement.{statement}
 use Rattle.ends.proofs.snap_end.Tie as tie
@@ -53,7 +53,11 @@ pair-of-requires : tie.Need-pair-of-requires
 pair-of-requires c κs = omega arith
 
 set-pair-requires : tie.Need-set-pair-requires
-set-pair-requires c κs = (pair-in _ _ _ (c .before .before .before .before .before .before .before .before .next-start .ensures) (sym (c .before .before .before .before .before .before .before .is-pair .ensures) ∙ c .before .before .before .before .before .before .if1 .taken), omega arith)
+set-pair-requires c κs = (
+  pair-in _ _ _ (c .before .before .before .before .before .before .before .before .next-start .ensures)
+      (sym (c .before .before .before .before .before .before .before .is-pair .ensures) ∙ c .before .before .before .before .before .before .if1 .taken),
+  omega arith,
+)
 
 same-length : tie.Need-same-length
 same-length c = omega arith
@@ -63,8 +67,13 @@ same-length-2 c = omega arith
 
 returns : tie.Need-returns
 returns c =
-    turn-pair _ _ _ _ _ _ (c .before .before .before .before .before .before .before .before .before .before .before .before .before .next-start .ensures) (sym (c .before .before .before .before .before .before .before .before .before .before .before .before .is-pair .ensures) ∙ c .before .before .before .before .before .before .before .before .before .before .before .if1 .taken)
-    (c .before .before .before .before .before .before .before .pair-of .ensures) (c .before .before .before .before .set-pair .ensures)
+    let at4 = c .before .before .before .before in
+    let at7 = at4 .before .before .before in
+    let at11 = at7 .before .before .before .before in
+    let at12 = at11 .before in
+    let at13 = at12 .before in
+    turn-pair _ _ _ _ _ _ (at13 .next-start .ensures) (sym (at12 .is-pair .ensures) ∙ at11 .if1 .taken)
+    (at7 .pair-of .ensures) (at4 .set-pair .ensures)
 
 end-of-requires : tie.Need-end-of-requires
 end-of-requires c κs = omega arith

@@ -1,6 +1,6 @@
 -- `ends::snap_ends` meets its contract, by what the tests found. Assumes nothing.
 use mathlib.Core.Path.{refl, sym, _∙_}
-use Rattle.calls.proofs.Moved.{timed-fine, few-levels}
+use Rattle.word_calls.proofs.Moved.{timed-fine, few-levels}
 use Rattle.ends.proofs.Calls.{refused-made, accepted-made}
 use borrow.Author.Needs.{needs}
 use Rattle.ends.proofs.snap_ends.Statement.{statement}
@@ -36,7 +36,11 @@ same-length-4 : tie.Need-same-length-4
 same-length-4 c = c .before .before .before .before .move-ends .kept .1 .0
 
 returns-2 : tie.Need-returns-2
-returns-2 c = accepted-made _ _ _ _ _ (c .before .before .before .before .before .before .before .before .before .timed-rule .ensures) _ _ (c .before .before .before .before .before .before .before .enum-told .given .1) (c .before .before .before .before .move-ends .ensures)
+returns-2 c =
+    let at4 = c .before .before .before .before in
+    let at7 = at4 .before .before .before in
+    let at9 = at7 .before .before in
+    accepted-made _ _ _ _ _ (at9 .timed-rule .ensures) _ _ (at7 .enum-told .given .1) (at4 .move-ends .ensures)
 
 pub snap-ends-spec : {M : Type 1} → statement M
 snap-ends-spec =

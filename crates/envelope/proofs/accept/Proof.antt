@@ -1,6 +1,6 @@
 -- `envelope::accept` meets its contract: the levels stand in front, and the floor is theirs. Assumes nothing.
 use native.Mathlib.Omega.{arith}
-use Rattle.levels.proofs.Places.{front-length}
+use Rattle.envelope.proofs.Places.{front-length}
 use Rattle.envelope.proofs.Answers.{accepted-is}
 use Rattle.envelope.proofs.accept.Statement.{statement}
 use Rattle.envelope.proofs.accept.Tie as tie

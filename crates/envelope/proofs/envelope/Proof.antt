@@ -23,8 +23,10 @@ same-length c = omega arith
 
 returns : tie.Need-returns
 returns c =
+    let at4 = c .before .before .before .before in
+    let at6 = at4 .before .before in
     c .before .before .accept .ensures
-    ∙ sym (call-by _ _ (sym (c .before .before .before .before .before .before .judge .ensures) ∙ c .before .before .before .before .enum-told .given .1))
+    ∙ sym (call-by _ _ (sym (at6 .judge .ensures) ∙ at4 .enum-told .given .1))
 
 same-length-2 : tie.Need-same-length-2
 same-length-2 c = omega arith

@@ -2,7 +2,7 @@
 use native.Mathlib.Omega.{arith}
 use mathlib.Core.Path.{sym, _∙_}
 use Rattle.base.proofs.First.{first-here, first-skip, first-end}
-use Rattle.envelope.specs.Calls.{tests}
+use Rattle.envelope.specs.Envelope.{tests}
 use Rattle.envelope.proofs.judge.Statement.{statement}
 use Rattle.envelope.proofs.judge.Tie as tie
 

@@ -4,7 +4,7 @@ use mathlib.Core.Bool.{false}
 use mathlib.Core.Path.{_≡_, sym, _∙_}
 use native.Mathlib.Omega.{arith}
 use lib.IntN.{pos}
-use Rattle.envelope.specs.Levels.{loud, loudRow}
+use Rattle.envelope.specs.Envelope.{loud, loudRow}
 use Rattle.envelope.proofs.Scan.{one-less}
 use Rattle.envelope.proofs.last_frame.Statement.{statement}
 use Rattle.envelope.proofs.last_frame.Tie as tie

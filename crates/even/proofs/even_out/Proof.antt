@@ -1,7 +1,7 @@
 -- `even::even_out` meets its contract, by what the tests found. Assumes nothing.
 use borrow.Author.Needs.{needs}
 use mathlib.Core.Path.{refl, sym, _∙_}
-use Rattle.calls.proofs.Moved.{limit-fine}
+use Rattle.word_calls.proofs.Moved.{limit-fine}
 use Rattle.even.proofs.Calls.{refused-made, accepted-made}
 use Rattle.even.proofs.even_out.Statement.{statement}
 use Rattle.even.proofs.even_out.Tie as tie
@@ -36,7 +36,11 @@ same-length-4 : tie.Need-same-length-4
 same-length-4 c = c .before .before .before .before .even-words .kept .1 .0
 
 returns-2 : tie.Need-returns-2
-returns-2 c = accepted-made _ _ (c .before .before .before .before .before .before .before .before .before .limit-rule .ensures) _ _ (c .before .before .before .before .before .before .before .enum-told .given .1) (c .before .before .before .before .even-words .ensures)
+returns-2 c =
+    let at4 = c .before .before .before .before in
+    let at7 = at4 .before .before .before in
+    let at9 = at7 .before .before in
+    accepted-made _ _ (at9 .limit-rule .ensures) _ _ (at7 .enum-told .given .1) (at4 .even-words .ensures)
 
 pub even-out-spec : {M : Type 1} → statement M
 even-out-spec =

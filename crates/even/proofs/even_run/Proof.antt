@@ -62,7 +62,10 @@ same-length-2 : tie.Need-same-length-2
 same-length-2 c = omega arith
 
 returns : tie.Need-returns
-returns c = run-is _ _ _ _ (c .before .before .before .before .share .ensures) (c .before .before .before .before .before .before .before .before .before .sum .ensures)
+returns c =
+    let at4 = c .before .before .before .before in
+    let at9 = at4 .before .before .before .before .before in
+    run-is _ _ _ _ (at4 .share .ensures) (at9 .sum .ensures)
 
 pub even-run-spec : {M : Type 1} → statement M
 even-run-spec =

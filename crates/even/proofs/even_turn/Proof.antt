@@ -24,7 +24,14 @@ same-length-2 : tie.Need-same-length-2
 same-length-2 c = omega arith
 
 returns : tie.Need-returns
-returns c = (turn-run _ _ _ _ (omega arith) (sym (c .before .before .before .before .before .before .before .before .before .before .before .before .is-crushed .ensures) ∙ c .before .before .before .before .before .before .before .before .before .before .before .if1 .taken) (c .before .before .before .before .before .before .before .before .stretch-of .ensures .0) (c .before .before .before .before .before .even-run .ensures), omega arith)
+returns c =
+    let at5 = c .before .before .before .before .before in
+    let at8 = at5 .before .before .before in
+    let at11 = at8 .before .before .before in
+    let at12 = at11 .before in (
+      turn-run _ _ _ _ (omega arith) (sym (at12 .is-crushed .ensures) ∙ at11 .if1 .taken) (at8 .stretch-of .ensures .0) (at5 .even-run .ensures),
+      omega arith,
+    )
 
 add-result-2 : tie.Need-add-result-2
 add-result-2 c = omega arith

@@ -26,7 +26,10 @@ loop-less : tie.Need-loop-less Inv-loop μ-loop
 loop-less c = omega arith
 
 loop-again : tie.Need-loop-again Inv-loop μ-loop
-loop-again c = (search needs, (search needs, c .before .before .before .before .before .before .before .before .loop .inv .1 .1 ∙ turns-next _ _ _ _ _ (omega arith) (omega arith) (omega arith) (c .before .before .before .before .even-turn .ensures .0)))
+loop-again c =
+    let at4 = c .before .before .before .before in
+    let at8 = at4 .before .before .before .before in
+    (search needs, (search needs, at8 .loop .inv .1 .1 ∙ turns-next _ _ _ _ _ (omega arith) (omega arith) (omega arith) (at4 .even-turn .ensures .0)))
 
 same-length : tie.Need-same-length Inv-loop μ-loop
 same-length c = omega arith

@@ -3,7 +3,7 @@ use Prim.Native.Nat.{_^_}
 use mathlib.Core.Path.{refl}
 use lib.Dec.{le→leb}
 use lib.Ieee.{inFloat}
-use Rattle.fit_file.specs.Calls.{durationOf}
+use Rattle.fit_file.specs.FitFile.{durationOf}
 use native.Mathlib.Omega.{arith}
 use Rattle.fit_file.proofs.duration_of.Statement.{statement}
 use Rattle.fit_file.proofs.duration_of.Tie as tie

@@ -1,7 +1,7 @@
 -- `fit_to_sound::fit_to_sound` meets its contract, by what the tests found. Assumes nothing.
 use borrow.Author.Needs.{needs}
 use mathlib.Core.Path.{refl, sym, _∙_}
-use Rattle.calls.proofs.Moved.{timed-fine, few-levels}
+use Rattle.word_calls.proofs.Moved.{timed-fine, few-levels}
 use Rattle.fit_to_sound.proofs.Calls.{refused-made, accepted-made}
 use Rattle.fit_to_sound.proofs.fit_to_sound.Statement.{statement}
 use Rattle.fit_to_sound.proofs.fit_to_sound.Tie as tie
@@ -36,7 +36,11 @@ same-length-4 : tie.Need-same-length-4
 same-length-4 c = c .before .before .before .before .fit-words .kept .1 .0
 
 returns-2 : tie.Need-returns-2
-returns-2 c = accepted-made _ _ _ _ _ (c .before .before .before .before .before .before .before .before .before .timed-rule .ensures) _ _ (c .before .before .before .before .before .before .before .enum-told .given .1) (c .before .before .before .before .fit-words .ensures)
+returns-2 c =
+    let at4 = c .before .before .before .before in
+    let at7 = at4 .before .before .before in
+    let at9 = at7 .before .before in
+    accepted-made _ _ _ _ _ (at9 .timed-rule .ensures) _ _ (at7 .enum-told .given .1) (at4 .fit-words .ensures)
 
 pub fit-to-sound-spec : {M : Type 1} → statement M
 fit-to-sound-spec =

@@ -25,7 +25,15 @@ settle-ends-requires c κs = omega arith
 
 even-words-requires-2 : tie.Need-even-words-requires-2
 even-words-requires-2 c κs =
-    still-alike (c .before .before .before .before .before .before .before .before .before .before .before .even-words .kept .0 ∙ c .before .before .before .before .before .before .before .before .before .before .before .before .before .before .before .before .before .before .before .before .before .before .before .before .move-to-rise .kept .0 ∙ c .before .before .before .before .before .before .before .before .before .before .before .before .before .before .before .before .before .before .before .before .before .before .before .before .before .before .before .before .before .before .before .put-in-order .kept .0) (c .before .before .before .before .settle-ends .kept .1 .0 ∙ c .before .before .before .before .before .before .before .before .before .before .before .even-words .kept .1 .0 ∙ c .before .before .before .before .before .before .before .before .before .before .before .before .before .before .before .before .before .clip .kept .1 .0 ∙ c .before .before .before .before .before .before .before .before .before .before .before .before .before .before .before .before .before .before .before .before .before .before .before .before .move-to-rise .kept .1 .0 ∙ c .before .before .before .before .before .before .before .before .before .before .before .before .before .before .before .before .before .before .before .before .before .before .before .before .before .before .before .before .before .before .before .put-in-order .kept .1 .0) (c .before .before .before .before .before .before .before .before .before .before .before .before .before .before .before .before .before .before .before .before .before .before .before .before .before .before .before .before .before .before .before .before .before .before .before .before .before .before .pre)
+    let at4 = c .before .before .before .before in
+    let at11 = at4 .before .before .before .before .before .before .before in
+    let at17 = at11 .before .before .before .before .before .before in
+    let at24 = at17 .before .before .before .before .before .before .before in
+    let at31 = at24 .before .before .before .before .before .before .before in
+    let at38 = at31 .before .before .before .before .before .before .before in
+    still-alike (at11 .even-words .kept .0 ∙ at24 .move-to-rise .kept .0 ∙ at31 .put-in-order .kept .0)
+    (at4 .settle-ends .kept .1 .0 ∙ at11 .even-words .kept .1 .0 ∙ at17 .clip .kept .1 .0 ∙ at24 .move-to-rise .kept .1 .0 ∙ at31 .put-in-order .kept .1 .0)
+    (at38 .pre)
 
 same-length : tie.Need-same-length
 same-length c = omega arith
@@ -34,7 +42,16 @@ same-length-2 : tie.Need-same-length-2
 same-length-2 c = omega arith
 
 returns : tie.Need-returns
-returns c = fit-is _ _ _ _ (c .before .before .before .before .before .before .before .before .before .before .before .before .before .before .before .before .before .before .before .before .before .before .before .before .before .before .before .before .before .before .before .before .before .before .before .before .put-in-order .ensures) (c .before .before .before .before .before .before .before .before .before .before .before .before .before .before .before .before .before .before .before .before .before .before .before .before .before .before .before .before .before .move-to-rise .ensures) (c .before .before .before .before .before .before .before .before .before .before .before .before .before .before .before .before .before .before .before .before .before .before .clip .ensures) (c .before .before .before .before .before .before .before .before .before .before .before .before .before .before .before .before .before .infinity .ensures) (c .before .before .before .before .before .before .before .before .before .before .before .before .before .before .before .before .even-words .ensures) (c .before .before .before .before .before .before .before .before .before .settle-ends .ensures) (c .before .before .before .before .even-words2 .ensures)
+returns c =
+    let at4 = c .before .before .before .before in
+    let at9 = at4 .before .before .before .before .before in
+    let at16 = at9 .before .before .before .before .before .before .before in
+    let at17 = at16 .before in
+    let at22 = at17 .before .before .before .before .before in
+    let at29 = at22 .before .before .before .before .before .before .before in
+    let at36 = at29 .before .before .before .before .before .before .before in
+    fit-is _ _ _ _ (at36 .put-in-order .ensures) (at29 .move-to-rise .ensures) (at22 .clip .ensures)
+    (at17 .infinity .ensures) (at16 .even-words .ensures) (at9 .settle-ends .ensures) (at4 .even-words2 .ensures)
 
 pub fit-words-spec : {M : Type 1} → statement M
 fit-words-spec =

@@ -1,6 +1,6 @@
 -- `job::clear` meets its contract: what is left of the stores, from where the loop stands, gives the whole. Assumes nothing.
 use Rattle.job.proofs.Printing.{table-same}
-use Rattle.layout.proofs.Filling.{Filling, fill-none, fill-next, fill-all}
+use Rattle.job_layout.proofs.Filling.{Filling, fill-none, fill-next, fill-all}
 use lib.ListN.{length}
 use mathlib.Core.Path.{refl, _∙_}
 use Prim.Native.Nat.{ℕ, _-_, _≤_}

@@ -17,7 +17,9 @@ same-length-2 : tie.Need-same-length-2
 same-length-2 c = c .before .before .fill .kept .1 .0
 
 returns : tie.Need-returns
-returns c = heard-are _ (c .before .before .before .before .before .before .before .read-samples .ensures) (c .before .before .before .before .before .before .before .read-samples .kept .1 .0) (c .before .before .fill .ensures)
+returns c =
+    let at7 = c .before .before .before .before .before .before .before in
+    heard-are _ (at7 .read-samples .ensures) (at7 .read-samples .kept .1 .0) (c .before .before .fill .ensures)
 
 pub hear-spec : {M : Type 1} → statement M
 hear-spec =

@@ -1,6 +1,6 @@
 -- `last_run::bad_times` meets its contract: one test after the other. Assumes nothing.
 use mathlib.Core.Path.{sym, _∙_}
-use Rattle.checks.proofs.Any.{or-first, or-second}
+use Rattle.limits.proofs.Any.{or-first, or-second}
 use Rattle.last_run.proofs.bad_times.Statement.{statement}
 use Rattle.last_run.proofs.bad_times.Tie as tie
 

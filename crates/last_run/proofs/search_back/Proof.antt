@@ -4,7 +4,7 @@ use mathlib.Core.Path.{_≡_, refl}
 use mathlib.Core.Bool.{false}
 use native.Mathlib.Omega.{arith}
 use lib.IntN.{pos}
-use Rattle.envelope.specs.Levels.{loudRow}
+use Rattle.envelope.specs.Envelope.{loudRow}
 use Rattle.last_run.specs.LastRun.{endsBetween}
 use Rattle.last_run.specs.Parts.{Low}
 use Rattle.last_run.proofs.Steps.{rest, search-starts, search-next, search-stop, search-done}

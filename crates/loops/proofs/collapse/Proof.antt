@@ -9,25 +9,66 @@ passes-requires : tie.Need-passes-requires
 passes-requires c κs = c .before .before .before .before .before .before .before .before .before .before .pre
 
 clear-requires : tie.Need-clear-requires
-clear-requires c κs = ((c .before .before .before .before .before .before .before .before .before .before .before .before .before .before .before .passes .kept .0 ∙ c .before .before .before .before .before .before .before .before .before .before .before .before .before .before .before .before .before .before .before .before .before .before .before .before .before .before .pre .0 ∙ sym (c .before .before .before .before .before .before .before .before .before .before .before .before .before .before .before .passes .kept .1 .1 .1 .1 .0), (c .before .before .before .before .before .before .before .before .before .before .before .before .before .before .before .passes .kept .1 .0 ∙ c .before .before .before .before .before .before .before .before .before .before .before .before .before .before .before .before .before .before .before .before .before .before .before .before .before .before .pre .1 .0 ∙ sym (c .before .before .before .before .before .before .before .before .before .before .before .before .before .before .before .passes .kept .1 .1 .1 .1 .0), (c .before .before .before .before .before .before .before .before .before .before .before .before .before .before .before .passes .kept .1 .1 .0 ∙ c .before .before .before .before .before .before .before .before .before .before .before .before .before .before .before .before .before .before .before .before .before .before .before .before .before .before .pre .1 .1 .0 ∙ sym (c .before .before .before .before .before .before .before .before .before .before .before .before .before .before .before .passes .kept .1 .1 .1 .1 .0), (c .before .before .before .before .before .before .before .before .before .before .before .before .before .before .before .passes .kept .1 .1 .1 .0 ∙ c .before .before .before .before .before .before .before .before .before .before .before .before .before .before .before .before .before .before .before .before .before .before .before .before .before .before .pre .1 .1 .1 .0 ∙ sym (c .before .before .before .before .before .before .before .before .before .before .before .before .before .before .before .passes .kept .1 .1 .1 .1 .0), refl)))), omega arith)
+clear-requires c κs =
+    let at12 = c .before .before .before .before .before .before .before .before .before .before .before .before in
+    let at15 = at12 .before .before .before in
+    let at26 = at15 .before .before .before .before .before .before .before .before .before .before .before in
+    let pre = at26 .pre in (
+      (
+        at15 .passes .kept .0 ∙ pre .0 ∙ sym (at15 .passes .kept .1 .1 .1 .1 .0),
+        (
+          at15 .passes .kept .1 .0 ∙ pre .1 .0 ∙ sym (at15 .passes .kept .1 .1 .1 .1 .0),
+          (
+            at15 .passes .kept .1 .1 .0 ∙ pre .1 .1 .0 ∙ sym (at15 .passes .kept .1 .1 .1 .1 .0),
+            (at15 .passes .kept .1 .1 .1 .0 ∙ pre .1 .1 .1 .0 ∙ sym (at15 .passes .kept .1 .1 .1 .1 .0), refl),
+          ),
+        ),
+      ),
+      omega arith,
+    )
 
 same-length : tie.Need-same-length
-same-length c = c .before .before .before .before .before .before .before .before .before .before .clear .kept .0 ∙ c .before .before .before .before .before .before .before .before .before .before .before .before .before .before .before .before .before .before .before .before .before .before .before .before .before .before .passes .kept .0
+same-length c =
+    let at10 = c .before .before .before .before .before .before .before .before .before .before in
+    let at22 = at10 .before .before .before .before .before .before .before .before .before .before .before .before in
+    let at26 = at22 .before .before .before .before in
+    at10 .clear .kept .0 ∙ at26 .passes .kept .0
 
 same-length-2 : tie.Need-same-length-2
-same-length-2 c = c .before .before .before .before .before .before .before .before .before .before .clear .kept .1 .0 ∙ c .before .before .before .before .before .before .before .before .before .before .before .before .before .before .before .before .before .before .before .before .before .before .before .before .before .before .passes .kept .1 .0
+same-length-2 c =
+    let at10 = c .before .before .before .before .before .before .before .before .before .before in
+    let at22 = at10 .before .before .before .before .before .before .before .before .before .before .before .before in
+    let at26 = at22 .before .before .before .before in
+    at10 .clear .kept .1 .0 ∙ at26 .passes .kept .1 .0
 
 same-length-3 : tie.Need-same-length-3
-same-length-3 c = c .before .before .before .before .before .before .before .before .before .before .clear .kept .1 .1 .0 ∙ c .before .before .before .before .before .before .before .before .before .before .before .before .before .before .before .before .before .before .before .before .before .before .before .before .before .before .passes .kept .1 .1 .0
+same-length-3 c =
+    let at10 = c .before .before .before .before .before .before .before .before .before .before in
+    let at22 = at10 .before .before .before .before .before .before .before .before .before .before .before .before in
+    let at26 = at22 .before .before .before .before in
+    at10 .clear .kept .1 .1 .0 ∙ at26 .passes .kept .1 .1 .0
 
 same-length-4 : tie.Need-same-length-4
-same-length-4 c = c .before .before .before .before .before .before .before .before .before .before .clear .kept .1 .1 .1 .0 ∙ c .before .before .before .before .before .before .before .before .before .before .before .before .before .before .before .before .before .before .before .before .before .before .before .before .before .before .passes .kept .1 .1 .1 .0
+same-length-4 c =
+    let at10 = c .before .before .before .before .before .before .before .before .before .before in
+    let at22 = at10 .before .before .before .before .before .before .before .before .before .before .before .before in
+    let at26 = at22 .before .before .before .before in
+    at10 .clear .kept .1 .1 .1 .0 ∙ at26 .passes .kept .1 .1 .1 .0
 
 same-length-5 : tie.Need-same-length-5
-same-length-5 c = c .before .before .before .before .before .before .before .before .before .before .clear .kept .1 .1 .1 .1 .0 ∙ c .before .before .before .before .before .before .before .before .before .before .before .before .before .before .before .before .before .before .before .before .before .before .before .before .before .before .passes .kept .1 .1 .1 .1 .0
+same-length-5 c =
+    let at10 = c .before .before .before .before .before .before .before .before .before .before in
+    let at22 = at10 .before .before .before .before .before .before .before .before .before .before .before .before in
+    let at26 = at22 .before .before .before .before in
+    at10 .clear .kept .1 .1 .1 .1 .0 ∙ at26 .passes .kept .1 .1 .1 .1 .0
 
 returns : tie.Need-returns
-returns c = collapsing _ _ _ _ _ (c .before .before .before .before .before .before .before .before .before .before .before .before .before .before .before .before .before .before .before .before .before .before .before .before .before .before .passes .ensures .0) (c .before .before .before .before .before .before .before .before .before .before .clear .ensures) (omega arith) (c .before .before .before .before .before .before .before .before .before .before .before .before .before .before .before .before .before .before .before .before .before .before .before .before .before .before .passes .kept .1 .1 .1 .1 .0) (c .before .before .before .before .before .before .before .before .before .before .clear .kept .1 .1 .1 .1 .0 ∙ c .before .before .before .before .before .before .before .before .before .before .before .before .before .before .before .before .before .before .before .before .before .before .before .before .before .before .passes .kept .1 .1 .1 .1 .0)
+returns c =
+    let at10 = c .before .before .before .before .before .before .before .before .before .before in
+    let at22 = at10 .before .before .before .before .before .before .before .before .before .before .before .before in
+    let at26 = at22 .before .before .before .before in
+    collapsing _ _ _ _ _ (at26 .passes .ensures .0) (at10 .clear .ensures) (omega arith)
+    (at26 .passes .kept .1 .1 .1 .1 .0) (at10 .clear .kept .1 .1 .1 .1 .0 ∙ at26 .passes .kept .1 .1 .1 .1 .0)
 
 pub collapse-spec : {M : Type 1} → statement M
 collapse-spec =

@@ -1,6 +1,6 @@
 -- The public call meets its contract, by what its checks found. Assumes nothing.
 use mathlib.Core.Path.{refl, sym, ap, _∙_}
-use Rattle.checks.specs.Order.{chain}
+use Rattle.limits.specs.Order.{chain}
 use Rattle.loops.proofs.Rules.{fine-even, refused-made, call-made}
 use borrow.Author.Needs.{needs}
 use Rattle.loops.proofs.collapse_loops.Statement.{statement}
@@ -19,7 +19,11 @@ enum-told : tie.Need-enum-told
 enum-told c = search needs
 
 accept-requires : tie.Need-accept-requires
-accept-requires c κs = fine-even _ (sym (c .before .before .before .before .before .before .before .chain .ensures ∙ ap chain (c .before .before .before .before .before .before .before .before .of-words .ensures)) ∙ c .before .before .before .before .before .enum-told .given .1)
+accept-requires c κs =
+    let at5 = c .before .before .before .before .before in
+    let at7 = at5 .before .before in
+    let at8 = at7 .before in
+    fine-even _ (sym (at7 .chain .ensures ∙ ap chain (at8 .of-words .ensures)) ∙ at5 .enum-told .given .1)
 
 same-length : tie.Need-same-length
 same-length c = refl
@@ -55,7 +59,12 @@ same-length-10 : tie.Need-same-length-10
 same-length-10 c = c .before .before .before .before .before .before .before .before .before .before .accept .kept .1 .1 .1 .1 .0
 
 returns-2 : tie.Need-returns-2
-returns-2 c = call-made _ (c .before .before .before .before .before .before .before .before .before .before .before .before .before .before .before .before .before .before .chain .ensures ∙ ap chain (c .before .before .before .before .before .before .before .before .before .before .before .before .before .before .before .before .before .before .before .of-words .ensures)) (c .before .before .before .before .before .before .before .before .before .before .before .before .before .before .before .before .enum-told .given .1) (c .before .before .before .before .before .before .before .before .before .before .accept .ensures)
+returns-2 c =
+    let at10 = c .before .before .before .before .before .before .before .before .before .before in
+    let at16 = at10 .before .before .before .before .before .before in
+    let at18 = at16 .before .before in
+    let at19 = at18 .before in
+    call-made _ (at18 .chain .ensures ∙ ap chain (at19 .of-words .ensures)) (at16 .enum-told .given .1) (at10 .accept .ensures)
 
 pub collapse-loops-spec : {M : Type 1} → statement M
 collapse-loops-spec =

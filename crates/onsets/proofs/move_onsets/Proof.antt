@@ -6,7 +6,7 @@ use lib.ListN.{length}
 use Rattle.base.specs.Loop.{each}
 use Rattle.base.specs.Words.{edges}
 use Rattle.base.proofs.Loops.{each-start, each-next, each-done}
-use Rattle.envelope.specs.Levels.{loudRow}
+use Rattle.envelope.specs.Envelope.{loudRow}
 use Rattle.onsets.specs.Onsets.{onsetTurn, snapOnsets}
 use Rattle.onsets.proofs.Starts.{onset-turn}
 use borrow.Author.Needs.{needs}
@@ -56,11 +56,13 @@ loop-less : tie.Need-loop-less Inv-loop μ-loop
 loop-less c = search needs
 
 loop-again : tie.Need-loop-again Inv-loop μ-loop
-loop-again c = (
-  search needs,
-  c .before .before .before .before .before .loop .inv .1
-      ∙ each-next _ _ _ (omega arith) (onset-turn _ _ (c .before .before .before .before .before .loop .starts) (c .before .before .before .before .before .before .before .before .before .args .ends .now) (c .before .prev-end-at .ensures) (c .snap-onset .ensures)),
-)
+loop-again c =
+    let at5 = c .before .before .before .before .before in
+    let at9 = at5 .before .before .before .before in (
+      search needs,
+      at5 .loop .inv .1
+          ∙ each-next _ _ _ (omega arith) (onset-turn _ _ (at5 .loop .starts) (at9 .args .ends .now) (c .before .prev-end-at .ensures) (c .snap-onset .ensures)),
+    )
 
 same-length : tie.Need-same-length Inv-loop μ-loop
 same-length c = search needs

@@ -2,7 +2,7 @@
 use mathlib.Core.Path.{_≡_}
 use native.Mathlib.Omega.{arith}
 use lib.IntN.{pos}
-use Rattle.envelope.specs.Levels.{loudRow}
+use Rattle.envelope.specs.Envelope.{loudRow}
 use Rattle.onsets.specs.Onsets.{onsetFrame}
 use Rattle.onsets.proofs.Starts.{risesAt, rises-first, rises-on, rises-here, rises-last}
 use Rattle.onsets.proofs.onset_back.Statement.{statement}

@@ -42,10 +42,16 @@ index-seconds-requires c κs = tt
 
 returns-2 : tie.Need-returns-2
 returns-2 c =
-    let z = c .before .before .before .before .before .before .before .before .frame-at in
-    let e = c .before .before .before .before .frame-ceil in
-    seconds-from _ _ _ (z .ensures) (test-back (z .result) (z .ok) (sym (c .before .before .before .before .before .before .before .before-zero .ensures) ∙ c .before .before .before .before .before .before .if1 .left))
-    (c .before .before .before .before .before .to-index .ensures ∙ ap toNat (read-back (z .result) (z .ok))) (e .ensures) (c .before .before .before .to-index2 .ensures ∙ ap toNat (read-back (e .result) (e .ok)))
+    let at3 = c .before .before .before in
+    let at4 = at3 .before in
+    let at5 = at4 .before in
+    let at6 = at5 .before in
+    let at7 = at6 .before in
+    let at8 = at7 .before in
+    let z = at8 .frame-at in
+    let e = at4 .frame-ceil in
+    seconds-from _ _ _ (z .ensures) (test-back (z .result) (z .ok) (sym (at7 .before-zero .ensures) ∙ at6 .if1 .left))
+    (at5 .to-index .ensures ∙ ap toNat (read-back (z .result) (z .ok))) (e .ensures) (at3 .to-index2 .ensures ∙ ap toNat (read-back (e .result) (e .ok)))
     (c .before .before .frames-back .ensures) (c .before .onset-back .ensures) (c .index-seconds .ensures)
 
 pub onset-seconds-spec : {M : Type 1} → statement M

@@ -1,6 +1,6 @@
 -- `onsets::snap_onsets` meets its contract, by what the tests found. Assumes nothing.
 use mathlib.Core.Path.{refl, sym, _∙_}
-use Rattle.calls.proofs.Moved.{sound-fine}
+use Rattle.word_calls.proofs.Moved.{sound-fine}
 use Rattle.onsets.proofs.Calls.{refused-made, accepted-made}
 use borrow.Author.Needs.{needs}
 use Rattle.onsets.proofs.snap_onsets.Statement.{statement}
@@ -28,7 +28,10 @@ same-length-2 : tie.Need-same-length-2
 same-length-2 c = search needs
 
 returns-2 : tie.Need-returns-2
-returns-2 c = accepted-made _ _ _ _ (c .before .before .before .before .before .before .sound-rule .ensures) _ _ (c .before .before .before .before .enum-told .given .1) (c .before .before .move-onsets .ensures)
+returns-2 c =
+    let at4 = c .before .before .before .before in
+    let at6 = at4 .before .before in
+    accepted-made _ _ _ _ (at6 .sound-rule .ensures) _ _ (at4 .enum-told .given .1) (c .before .before .move-onsets .ensures)
 
 pub snap-onsets-spec : {M : Type 1} → statement M
 snap-onsets-spec =

@@ -2,7 +2,7 @@
 use mathlib.Core.Path.{sym, _∙_}
 use borrow.Author.Needs.{needs}
 use Rattle.base.proofs.First.{first-here, first-skip, first-end}
-use Rattle.checks.proofs.Any.{or-first, or-second}
+use Rattle.limits.proofs.Any.{or-first, or-second}
 use Rattle.peak.specs.Peak.{tests}
 use Rattle.peak.proofs.judge.Statement.{statement}
 use Rattle.peak.proofs.judge.Tie as tie

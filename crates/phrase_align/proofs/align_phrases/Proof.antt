@@ -1,8 +1,8 @@
 -- `phrase_align::align_phrases` meets its contract, by what the tests found. Assumes nothing.
 use mathlib.Core.Path.{refl, sym, _∙_}
 use native.Mathlib.Nat.{le-trans, le-of-eq}
-use Rattle.calls.proofs.Moved.{spans-fine}
-use Rattle.calls.proofs.Within.{one-length}
+use Rattle.word_calls.proofs.Moved.{spans-fine}
+use Rattle.word_calls.proofs.Within.{one-length}
 use Rattle.phrase_align.proofs.Calls.{refused-made, accepted-made}
 use borrow.Author.Needs.{needs}
 use Rattle.phrase_align.proofs.align_phrases.Statement.{statement}
@@ -19,7 +19,9 @@ enum-told c = search needs
 
 place-words-requires : tie.Need-place-words-requires
 place-words-requires c κs =
-    let w = spans-fine _ _ _ _ (sym (c .before .before .before .before .before .before .before .before .spans-rule .ensures) ∙ c .before .before .before .before .before .before .enum-told .given .1) in
+    let at6 = c .before .before .before .before .before .before in
+    let at8 = at6 .before .before in
+    let w = spans-fine _ _ _ _ (sym (at8 .spans-rule .ensures) ∙ at6 .enum-told .given .1) in
     let s = w .1 .0 in
     let v = w .0 in
     (one-length v, (le-trans (le-of-eq (v .keys-as-long)) (v .few), (w .1 .1, (s .ends-as-long, (s .counts-as-long, s .few)))))
@@ -58,10 +60,16 @@ same-length-10 : tie.Need-same-length-10
 same-length-10 c = c .before .before .before .before .before .before .before .before .before .before .before .before .place-words .kept .1 .1 .1 .1 .0
 
 same-length-11 : tie.Need-same-length-11
-same-length-11 c = c .before .before .before .before .before .before .before .before .before .before .before .before .place-words .kept .1 .1 .1 .1 .1 .0
+same-length-11 c =
+    let at12 = c .before .before .before .before .before .before .before .before .before .before .before .before in
+    at12 .place-words .kept .1 .1 .1 .1 .1 .0
 
 returns-2 : tie.Need-returns-2
-returns-2 c = accepted-made _ _ _ (c .before .before .before .before .before .before .before .before .before .before .before .before .before .before .before .before .before .before .before .before .before .spans-rule .ensures) (c .before .before .before .before .before .before .before .before .before .before .before .before .before .before .before .before .before .before .before .enum-told .given .1) (c .before .before .before .before .before .before .before .before .before .before .before .before .place-words .ensures)
+returns-2 c =
+    let at12 = c .before .before .before .before .before .before .before .before .before .before .before .before in
+    let at19 = at12 .before .before .before .before .before .before .before in
+    let at21 = at19 .before .before in
+    accepted-made _ _ _ (at21 .spans-rule .ensures) (at19 .enum-told .given .1) (at12 .place-words .ensures)
 
 pub align-phrases-spec : {M : Type 1} → statement M
 align-phrases-spec =

@@ -14,9 +14,13 @@ number-words-requires c κs = omega arith
 
 clear-requires : tie.Need-clear-requires
 clear-requires c κs =
-    let k = c .before .before .before .before .before .before .before .before .before .before .before .before .before .before .before .place-spans .kept in
-    let p = c .before .before .before .before .before .before .before .before .before .before .before .before .before .before .before .before .before .before .before .before .before .before .before .before .before .before .before .before .before .pre .0 in
-    ((k .0 ∙ p .0, (k .1 .0 ∙ p .1 .0, (p .1 .1 .0, (p .1 .1 .1 .0, refl)))), le-trans (c .before .before .before .before .before .before .before .before .before .before .before .before .before .before .before .place-spans .ensures .1) (le-of-eq (p .1 .1 .0)))
+    let at12 = c .before .before .before .before .before .before .before .before .before .before .before .before in
+    let at15 = at12 .before .before .before in
+    let at27 = at15 .before .before .before .before .before .before .before .before .before .before .before .before in
+    let at29 = at27 .before .before in
+    let k = at15 .place-spans .kept in
+    let p = at29 .pre .0 in
+    ((k .0 ∙ p .0, (k .1 .0 ∙ p .1 .0, (p .1 .1 .0, (p .1 .1 .1 .0, refl)))), le-trans (at15 .place-spans .ensures .1) (le-of-eq (p .1 .1 .0)))
 
 same-length : tie.Need-same-length
 same-length c = omega arith
@@ -38,8 +42,13 @@ same-length-6 c = omega arith
 
 returns : tie.Need-returns
 returns c =
-    let p = c .before .before .before .before .before .before .before .before .before .before .before .before .before .before .before .before .before .before .before .before .before .before .before .before .before .before .before .before .before .before .before .before .before .before .before .before .before .before .before .before .pre in
-    placed-made _ (p .0) _ (p .1 .1 .0) _ (p .1 .1 .1 .1 .0) (c .before .before .before .before .before .before .before .before .before .before .before .before .before .before .before .before .before .before .before .before .before .before .before .before .before .before .place-spans .ensures .0) (le-trans (c .before .before .before .before .before .before .before .before .before .before .before .before .before .before .before .before .before .before .before .before .before .before .before .before .before .before .place-spans .ensures .1) (le-of-eq (p .0 .1 .1 .0))) (c .before .before .before .before .before .before .before .before .before .before .before .before .before .before .before .before .before .before .number-words .ensures) (c .before .before .before .before .before .before .before .before .before .before .clear .ensures)
+    let at10 = c .before .before .before .before .before .before .before .before .before .before in
+    let at18 = at10 .before .before .before .before .before .before .before .before in
+    let at26 = at18 .before .before .before .before .before .before .before .before in
+    let at38 = at26 .before .before .before .before .before .before .before .before .before .before .before .before in
+    let at40 = at38 .before .before in
+    let p = at40 .pre in
+    placed-made _ (p .0) _ (p .1 .1 .0) _ (p .1 .1 .1 .1 .0) (at26 .place-spans .ensures .0) (le-trans (at26 .place-spans .ensures .1) (le-of-eq (p .0 .1 .1 .0))) (at18 .number-words .ensures) (at10 .clear .ensures)
 
 pub place-words-spec : {M : Type 1} → statement M
 place-words-spec =

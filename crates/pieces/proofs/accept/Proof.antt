@@ -16,7 +16,10 @@ same-length-2 : tie.Need-same-length-2
 same-length-2 c = c .before .before .before .before .write-pieces .kept .1 .1 .1 .1 .0
 
 returns : tie.Need-returns
-returns c = accept-made _ _ _ _ _ (c .before .before .before .before .before .before .before .count-pieces .ensures) (c .before .before .before .before .write-pieces .ensures .0) (c .before .before .before .before .write-pieces .ensures .1)
+returns c =
+    let at4 = c .before .before .before .before in
+    let at7 = at4 .before .before .before in
+    accept-made _ _ _ _ _ (at7 .count-pieces .ensures) (at4 .write-pieces .ensures .0) (at4 .write-pieces .ensures .1)
 
 pub accept-spec : {M : Type 1} → statement M
 accept-spec =

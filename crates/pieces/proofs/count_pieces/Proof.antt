@@ -3,7 +3,7 @@ use Prim.Native.Nat.{_-_, _≤_}
 use mathlib.Core.Path.{_≡_}
 use native.Mathlib.Omega.{arith}
 use lib.ListN.{length}
-use Rattle.envelope.specs.Levels.{quietRow}
+use Rattle.envelope.specs.Envelope.{quietRow}
 use Rattle.pieces.proofs.Passes.{quiet-length, Counting, counting-starts, counting-next, counting-last, counting-done}
 use Rattle.pieces.proofs.count_pieces.Statement.{statement}
 use Rattle.pieces.proofs.count_pieces.Tie as tie

@@ -33,7 +33,11 @@ same-length-4 : tie.Need-same-length-4
 same-length-4 c = c .before .before .before .before .accept .kept .1 .1 .1 .1 .0
 
 returns-2 : tie.Need-returns-2
-returns-2 c = call-made _ _ _ _ _ (c .before .before .before .before .before .before .before .before .before .judge .ensures) (c .before .before .before .before .before .before .before .enum-told .given .1) (c .before .before .before .before .accept .ensures)
+returns-2 c =
+    let at4 = c .before .before .before .before in
+    let at7 = at4 .before .before .before in
+    let at9 = at7 .before .before in
+    call-made _ _ _ _ _ (at9 .judge .ensures) (at7 .enum-told .given .1) (at4 .accept .ensures)
 
 pub pieces-at-spec : {M : Type 1} → statement M
 pieces-at-spec =

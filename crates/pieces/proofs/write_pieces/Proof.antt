@@ -4,7 +4,7 @@ use Prim.Native.Nat.{ℕ, _-_, _*_, _≤_}
 use mathlib.Core.Path.{_≡_, refl, ap}
 use native.Mathlib.Omega.{arith}
 use lib.ListN.{length, length-set}
-use Rattle.envelope.specs.Levels.{quietRow}
+use Rattle.envelope.specs.Envelope.{quietRow}
 use Rattle.pieces.specs.Parts.{startsOver, endsOver}
 use Rattle.pieces.proofs.Passes.{quiet-length, fits-starts, fits-ends, Writing, writing-starts, writing-room, writing-next, writing-last, writing-done}
 use Rattle.pieces.proofs.write_pieces.Statement.{statement}

@@ -23,7 +23,12 @@ same-length-2 : tie.Need-same-length-2
 same-length-2 c = omega arith
 
 returns : tie.Need-returns
-returns c = around-made _ _ _ _ _ (c .before .before .before .before .before .before .before .before .before .before .before .before .before .before .before .before .before .before .before .before .before .last-inside .ensures .0) (c .before .before .before .before .before .before .before .before .before .before .before .before .before .before .before .before .before .before .spread-before .ensures) (c .before .before .before .before .before .before .before .before .before .before .before .spread-after .ensures) (c .before .before .before .before .place-between .ensures)
+returns c =
+    let at4 = c .before .before .before .before in
+    let at11 = at4 .before .before .before .before .before .before .before in
+    let at18 = at11 .before .before .before .before .before .before .before in
+    let at21 = at18 .before .before .before in
+    around-made _ _ _ _ _ (at21 .last-inside .ensures .0) (at18 .spread-before .ensures) (at11 .spread-after .ensures) (at4 .place-between .ensures)
 
 pub place-around-spec : {M : Type 1} → statement M
 place-around-spec =

@@ -35,7 +35,10 @@ loop-less : tie.Need-loop-less Inv-loop μ-loop
 loop-less c = omega arith
 
 loop-again : tie.Need-loop-again Inv-loop μ-loop
-loop-again c = (omega arith, (search needs, (search needs, c .before .before .before .before .before .before .before .before .loop .inv .1 .1 .1 ∙ each-next _ _ _ (omega arith) (c .before .before .before .before .place-stray .ensures))))
+loop-again c =
+    let at4 = c .before .before .before .before in
+    let at8 = at4 .before .before .before .before in
+    (omega arith, (search needs, (search needs, at8 .loop .inv .1 .1 .1 ∙ each-next _ _ _ (omega arith) (at4 .place-stray .ensures))))
 
 same-length : tie.Need-same-length Inv-loop μ-loop
 same-length c = omega arith

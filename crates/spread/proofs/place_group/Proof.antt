@@ -18,7 +18,10 @@ same-length-2 : tie.Need-same-length-2
 same-length-2 c = omega arith
 
 returns : tie.Need-returns
-returns c = c .before .before .before .before .place-around .ensures ∙ group-around _ _ _ _ (c .before .before .before .before .before .before .before .before .first-inside .ensures .0) (omega arith)
+returns c =
+    let at4 = c .before .before .before .before in
+    let at8 = at4 .before .before .before .before in
+    at4 .place-around .ensures ∙ group-around _ _ _ _ (at8 .first-inside .ensures .0) (omega arith)
 
 spread-requires : tie.Need-spread-requires
 spread-requires c κs = omega arith
@@ -30,7 +33,10 @@ same-length-4 : tie.Need-same-length-4
 same-length-4 c = omega arith
 
 returns-2 : tie.Need-returns-2
-returns-2 c = c .before .before .before .before .spread .ensures ∙ group-spread _ _ _ _ (c .before .before .before .before .before .before .before .before .first-inside .ensures .0) (omega arith) (c .before .before .before .before .before .before .before .before .first-inside .ensures .1)
+returns-2 c =
+    let at4 = c .before .before .before .before in
+    let at8 = at4 .before .before .before .before in
+    at4 .spread .ensures ∙ group-spread _ _ _ _ (at8 .first-inside .ensures .0) (omega arith) (at8 .first-inside .ensures .1)
 
 pub place-group-spec : {M : Type 1} → statement M
 place-group-spec =

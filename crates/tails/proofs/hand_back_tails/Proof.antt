@@ -1,7 +1,7 @@
 -- `tails::hand_back_tails` meets its contract, by what the tests found. Assumes nothing.
 use mathlib.Core.Path.{refl, sym, _∙_}
-use Rattle.calls.proofs.Moved.{sound-fine, few-levels}
-use Rattle.calls.proofs.Within.{letters-most}
+use Rattle.word_calls.proofs.Moved.{sound-fine, few-levels}
+use Rattle.word_calls.proofs.Within.{letters-most}
 use Rattle.tails.proofs.Calls.{refused-made, accepted-made}
 use borrow.Author.Needs.{needs}
 use Rattle.tails.proofs.hand_back_tails.Statement.{statement}
@@ -37,7 +37,11 @@ same-length-4 : tie.Need-same-length-4
 same-length-4 c = c .before .before .before .before .move-tails .kept .1 .0
 
 returns-2 : tie.Need-returns-2
-returns-2 c = accepted-made _ _ _ _ (c .before .before .before .before .before .before .before .before .before .sound-rule .ensures) _ _ (c .before .before .before .before .before .before .before .enum-told .given .1) (c .before .before .before .before .move-tails .ensures)
+returns-2 c =
+    let at4 = c .before .before .before .before in
+    let at7 = at4 .before .before .before in
+    let at9 = at7 .before .before in
+    accepted-made _ _ _ _ (at9 .sound-rule .ensures) _ _ (at7 .enum-told .given .1) (at4 .move-tails .ensures)
 
 pub hand-back-tails-spec : {M : Type 1} → statement M
 hand-back-tails-spec =

@@ -7,7 +7,7 @@ use lib.ListN.{length}
 use Rattle.base.specs.Loop.{each}
 use Rattle.base.specs.Words.{edges}
 use Rattle.base.proofs.Loops.{each-next, each-done}
-use Rattle.envelope.specs.Levels.{loudRow}
+use Rattle.envelope.specs.Envelope.{loudRow}
 use Rattle.tails.specs.Tails.{tailTurn, handBackTails}
 use Rattle.tails.proofs.Turns.{tail-turn}
 use Rattle.tails.proofs.move_tails.Statement.{statement}
@@ -65,17 +65,21 @@ loop-less : tie.Need-loop-less Inv-loop μ-loop
 loop-less c = omega arith
 
 loop-again : tie.Need-loop-again Inv-loop μ-loop
-loop-again c = (
-  omega arith,
-  (
-    search needs,
-    (
-      search needs,
-      c .before .before .before .before .before .before .before .before .before .before .before .before .before .loop .inv .1 .1 .1
-          ∙ each-next _ _ _ (omega arith) (tail-turn _ _ _ _ _ (c .before .before .before .before .before .before .before .before .before .before .before .before .before .before .before .before .before .before .args .letters .now) (c .before .before .before .before .before .before .before .tail-of .ensures) (c .before .before .before .before .hand-back .ensures)),
-    ),
-  ),
-)
+loop-again c =
+    let at4 = c .before .before .before .before in
+    let at7 = at4 .before .before .before in
+    let at13 = at7 .before .before .before .before .before .before in
+    let at18 = at13 .before .before .before .before .before in (
+      omega arith,
+      (
+        search needs,
+        (
+          search needs,
+          at13 .loop .inv .1 .1 .1
+              ∙ each-next _ _ _ (omega arith) (tail-turn _ _ _ _ _ (at18 .args .letters .now) (at7 .tail-of .ensures) (at4 .hand-back .ensures)),
+        ),
+      ),
+    )
 
 same-length : tie.Need-same-length Inv-loop μ-loop
 same-length c = omega arith

@@ -5,7 +5,7 @@ use borrow.Author.Needs.{needs}
 use native.Mathlib.Omega.{arith}
 use lib.ListN.{length}
 use Rattle.base.specs.Words.{edges}
-use Rattle.envelope.specs.Levels.{loudRow}
+use Rattle.envelope.specs.Envelope.{loudRow}
 use Rattle.envelope.proofs.Scan.{length-row}
 use Rattle.tally.proofs.Sums.{filled, pass-starts, pass-room, pass-next, pass-done}
 use Rattle.tally.proofs.add_words.Statement.{statement}
@@ -50,7 +50,8 @@ loop-less c = omega arith
 
 loop-again : tie.Need-loop-again Inv-loop μ-loop
 loop-again c =
-    (omega arith, (search needs, pass-next _ _ _ _ _ _ (c .before .before .before .before .before .before .before .before .loop .inv .1 .1) (c .before .before .add-word .ensures)))
+    let at8 = c .before .before .before .before .before .before .before .before in
+    (omega arith, (search needs, pass-next _ _ _ _ _ _ (at8 .loop .inv .1 .1) (c .before .before .add-word .ensures)))
 
 same-length : tie.Need-same-length Inv-loop μ-loop
 same-length c = c .before .loop .inv .1 .0

@@ -4,7 +4,7 @@ use mathlib.Core.Path.{_≡_, refl, sym, _∙_}
 use native.Mathlib.Omega.{arith}
 use Rattle.base.specs.Loop.{each}
 use Rattle.base.proofs.Loops.{each-next, each-done}
-use Rattle.envelope.specs.Levels.{loudRow}
+use Rattle.envelope.specs.Envelope.{loudRow}
 use Rattle.tally.specs.Parts.{loudTurn, loudBetween}
 use Rattle.tally.proofs.loud_count.Statement.{statement}
 use Rattle.tally.proofs.loud_count.Tie as tie

@@ -19,7 +19,10 @@ clear-places-requires c κs = let e = enough _ _ _ _ _ _ (c .before .before .bef
 
 add-words-requires : tie.Need-add-words-requires
 add-words-requires c κs =
-    ready _ _ _ _ _ _ (c .before .before .before .before .before .before .before .phrases-rule .ensures) (c .before .before .before .before .before .enum-told .given .1) _ (c .before .before .before .clear-places .ensures)
+    let at3 = c .before .before .before in
+    let at5 = at3 .before .before in
+    let at7 = at5 .before .before in
+    ready _ _ _ _ _ _ (at7 .phrases-rule .ensures) (at5 .enum-told .given .1) _ (at3 .clear-places .ensures)
 
 returns : tie.Need-returns
 returns c = refused-made _ _ _ _ _ _ _ (c .before .before .before .phrases-rule .ensures) _ (c .before .rule .given .1)
@@ -29,8 +32,11 @@ same-length c = search needs
 
 returns-2 : tie.Need-returns-2
 returns-2 c =
-    accepted-made _ _ _ _ _ _ _ (c .before .before .before .before .before .before .before .before .before .before .phrases-rule .ensures) (c .before .before .before .before .before .before .before .before .enum-told .given .1)
-    (c .before .before .before .before .before .before .clear-places .ensures) (c .before .before .add-words .ensures)
+    let at6 = c .before .before .before .before .before .before in
+    let at8 = at6 .before .before in
+    let at10 = at8 .before .before in
+    accepted-made _ _ _ _ _ _ _ (at10 .phrases-rule .ensures) (at8 .enum-told .given .1)
+    (at6 .clear-places .ensures) (c .before .before .add-words .ensures)
 
 pub tally-at-spec : {M : Type 1} → statement M
 tally-at-spec =

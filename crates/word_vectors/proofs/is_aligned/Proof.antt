@@ -39,10 +39,16 @@ is-kept-requires : tie.Need-is-kept-requires
 is-kept-requires c κs = omega arith
 
 same-length : tie.Need-same-length
-same-length c = c .before .before .before .before .before .before .before .before .before .before .before .before .before .before .align-phrases .kept .0
+same-length c =
+    let at12 = c .before .before .before .before .before .before .before .before .before .before .before .before in
+    let at14 = at12 .before .before in
+    at14 .align-phrases .kept .0
 
 same-length-2 : tie.Need-same-length-2
-same-length-2 c = c .before .before .before .before .before .before .before .before .before .before .before .before .before .before .align-phrases .kept .1 .0
+same-length-2 c =
+    let at12 = c .before .before .before .before .before .before .before .before .before .before .before .before in
+    let at14 = at12 .before .before in
+    at14 .align-phrases .kept .1 .0
 
 returns : tie.Need-returns
 returns c = tt
@@ -54,10 +60,16 @@ enum-told : tie.Need-enum-told
 enum-told c = omega arith
 
 same-length-3 : tie.Need-same-length-3
-same-length-3 c = c .before .before .before .before .before .before .before .before .before .before .before .before .before .before .before .align-phrases .kept .0
+same-length-3 c =
+    let at12 = c .before .before .before .before .before .before .before .before .before .before .before .before in
+    let at15 = at12 .before .before .before in
+    at15 .align-phrases .kept .0
 
 same-length-4 : tie.Need-same-length-4
-same-length-4 c = c .before .before .before .before .before .before .before .before .before .before .before .before .before .before .before .align-phrases .kept .1 .0
+same-length-4 c =
+    let at12 = c .before .before .before .before .before .before .before .before .before .before .before .before in
+    let at15 = at12 .before .before .before in
+    at15 .align-phrases .kept .1 .0
 
 returns-2 : tie.Need-returns-2
 returns-2 c = tt

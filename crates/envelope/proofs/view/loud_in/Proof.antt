@@ -16,7 +16,7 @@ use denote.Builtin.{f64}
 use denote.Ref.{RefT, now}
 use denote.Slice.{slice-vals, shr-slice-tells, shr-slice-lawful}
 use denote.Steps.{heard, nothing}
-use Rattle.envelope.specs.Levels.{loudRow}
+use Rattle.envelope.specs.Envelope.{loudRow}
 use Rattle.envelope.proofs.Walks.{typed, proved, asks, held, freed}
 use Rattle.envelope.proofs.view.new as new
 use Rattle.envelope.proofs.view.new.Met as new-met

@@ -12,8 +12,8 @@ use denote.Floats.{float-vals}
 use denote.Signature.{namedLft}
 use denote.Slice.{slice-vals}
 use Rattle.envelope.proofs.Walks.{low, lows, Typed, tells, typed, proved, apart, no-third, asks, held, freed}
-use Rattle.floors.proofs.own_floor as callee
-use Rattle.floors.proofs.own_floor.Met as met
+use Rattle.envelope.proofs.floor.own_floor as callee
+use Rattle.envelope.proofs.floor.own_floor.Met as met
 use Rattle.envelope.proofs.view.own.Key.{name as #own}
 use Rattle.envelope.proofs.view.own as own
 use Rattle.envelope.proofs.view.own.Statement.{statement}
@@ -31,7 +31,7 @@ own-spec 𝓤 H 𝓜 𝓖 𝓡 =
     assigns ! (of-opd ! (load ! (from ! (fld ! refl (stop !))) (look-in ! 4 (sub ! 1 refl (whole !))))) (from ! (stop !)) (init ! 0 refl (tt, wt .1 .1 .0)) $
     -- [_3; …; _2; …; _1; …; room for _0; …; the tokens; what the struct owns]
     move ! (9 ∷ []) $ apart ! (namedLft 1 0 tt κs) (a .0) $ no-third ! $ move ! (9 ∷ 0 ∷ []) $
-    asks (𝓡 .run) code.env ! fm callee.ended (callee.clauses 𝓤 H (𝓖 .A) (𝓜 .mem) (𝓡 .run)) code.calls-floors·own-floor (met.met 𝓤 H 𝓜 𝓖 𝓡)
+    asks (𝓡 .run) code.env ! fm callee.ended (callee.clauses 𝓤 H (𝓖 .A) (𝓜 .mem) (𝓡 .run)) code.calls-envelope·floor·own-floor (met.met 𝓤 H 𝓜 𝓖 𝓡)
     ((κs, qs, tt, (a .0 .levels, (a .0 .floor, tt)), (slice-vals (a .0 .levels), (float-vals binary64 (a .0 .floor), tt))), tt) (id⊢ 𝓤 _)
     (and-then ! (held ! 3 refl) (and-then ! (held ! 1 refl) (no-more !))) (λ u r ws is.
     -- [the result; the tokens; what `own_floor` ensures; …; _3; …; _2; …; _1; …; room for _0; …]

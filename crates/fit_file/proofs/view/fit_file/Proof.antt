@@ -15,8 +15,8 @@ use denote.Signature.{namedLft}
 use denote.Slice.{slice-vals, mut-slice-tells, shr-slice-tells, shr-slice-lawful}
 use denote.Enum.Laws as LE
 use Rattle.envelope.proofs.Walks.{low, lows, Typed, tells, typed, proved-with, apart, asks, held, freed}
-use Rattle.checks.proofs.Answer as Answer
-use Rattle.checks.proofs.Answer.Laws as Answer′
+use Rattle.limits.proofs.Answer as Answer
+use Rattle.limits.proofs.Answer.Laws as Answer′
 use Rattle.fit_file.proofs.fit_file_at as callee
 use Rattle.fit_file.proofs.fit_file_at.Met as met
 use Rattle.fit_file.proofs.view.fit_file.Key.{name as #fit-file}

@@ -16,8 +16,8 @@ use denote.Signature.{namedLft}
 use denote.Slice.{slice-vals, mut-slice-tells, shr-slice-tells, shr-slice-lawful}
 use denote.Enum.Laws as LE
 use Rattle.envelope.proofs.Walks.{low, lows, Typed, tells, typed, proved-with, apart, asks, held, freed}
-use Rattle.checks.proofs.Answer as Answer
-use Rattle.checks.proofs.Answer.Laws as Answer′
+use Rattle.limits.proofs.Answer as Answer
+use Rattle.limits.proofs.Answer.Laws as Answer′
 use Rattle.fit_to_sound.proofs.fit_to_sound as callee
 use Rattle.fit_to_sound.proofs.fit_to_sound.Met as met
 use Rattle.fit_to_sound.proofs.view.fit_to_sound.Key.{name as #fit-to-sound}

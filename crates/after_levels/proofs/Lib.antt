@@ -1,2 +1,0 @@
--- The words that loops left, in the first places.
-mod Left

@@ -1,3 +1,0 @@
--- A full run after its levels.
-pub mod AfterLevels
-pub mod Parts

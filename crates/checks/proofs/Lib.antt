@@ -1,2 +1,0 @@
--- Laws of the tests behind the refusals.
-pub mod Any

@@ -1,3 +1,0 @@
--- Copies of a run of keys.
-pub mod Loops
-pub mod Parts

@@ -1,2 +1,0 @@
--- The cuts, computed.
-pub mod Computed

@@ -1,2 +1,0 @@
--- Recordings of 2,001 frames.
-pub mod Frames

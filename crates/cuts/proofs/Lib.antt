@@ -1,3 +1,0 @@
--- Laws of cuts.
-pub mod Cuts
-pub mod Parts

@@ -1,3 +1,0 @@
--- Where a piece is cut.
-pub mod Pieces
-pub mod Parts

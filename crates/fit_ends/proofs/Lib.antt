@@ -1,4 +1,0 @@
--- Laws of words' ends.
-mod Silence
-mod Turns
-pub mod Kept

@@ -1,3 +1,0 @@
--- Ends settled on their sound.
-pub mod Fit
-pub mod Parts

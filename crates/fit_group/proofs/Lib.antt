@@ -1,3 +1,0 @@
--- Laws of one phrase's words.
-pub mod Turns
-pub mod Kept

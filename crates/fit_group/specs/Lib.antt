@@ -1,2 +1,0 @@
--- The words of one phrase, fitted.
-pub mod FitGroup

@@ -1,2 +1,0 @@
--- Laws of a phrase's words in the work space.
-mod Phrases

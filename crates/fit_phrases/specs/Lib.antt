@@ -1,2 +1,0 @@
--- Words fitted to their sound, phrase by phrase.
-pub mod FitPhrases

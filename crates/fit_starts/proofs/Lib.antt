@@ -1,4 +1,0 @@
--- Laws of words' starts.
-pub mod Starts
-pub mod Rise
-pub mod Kept

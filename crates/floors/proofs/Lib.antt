@@ -1,2 +1,0 @@
--- Laws of the floor.
-pub mod Floors

@@ -1,2 +1,0 @@
--- The floor under levels.
-pub mod Floors

@@ -1,0 +1,38 @@
+-- What only the contracts of unchecked parts cite; a reader of the public call may skip it. Assumes nothing.
+use Prim.Native.Nat.{ℕ, _/_}
+use mathlib.Core.Path.{_≡_}
+use mathlib.Core.List.{List}
+use lib.Ieee.{Float}
+use Rattle.base.specs.Words.{Words, Spans, count, wordsInPlaces}
+use Rattle.limits.specs.declared.Applies.{Applies}
+use Rattle.word_calls.specs.Calls.{ofWords, withLevels, withSpans, withPlaces}
+use Rattle.envelope.specs.Envelope.{hop}
+use Rattle.pieces.specs.Pieces.{need}
+use Rattle.base.specs.declared.Rule.{Rule}
+use Rattle.base.specs.declared.Rule.the-variants.{Fine, Breaks}
+use Rattle.pieces.specs.Parts.{startsOver, endsOver}
+use Rattle.run_stages.specs.Stages.{Run}
+use Rattle.full_run.specs.FullRun.{reportOf}
+use Rattle.full_run.specs.declared.Answer.{Answer}
+use Rattle.full_run.specs.declared.Answer.the-variants.{Accepted, Refused}
+
+-- ======== `rule`
+
+-- ---- What applies, of so many samples and places, as the code tests it: the levels of the recording itself are as many as its frames.
+unfoldable pub appliesTo : ℕ → Words → Spans → ℕ → ℕ → ℕ → ℕ → Applies
+appliesTo samples ws spans phrases levels pieces work =
+    let given = withSpans spans (withLevels (samples / hop) samples (ofWords ws)) in
+    let cut = withPlaces pieces (need (samples / hop)) (withPlaces levels (samples / hop) given) in
+    withPlaces work (count ws) (withPlaces phrases (count ws) cut)
+
+-- ======== `heard`
+
+-- ---- What a run answers, by what the tests find; and, where it is accepted, what the lent places hold.
+unfoldable pub Heard : Rule → Float → Run → Answer → Words → Words → List ℕ → List ℕ → List ℕ → List ℕ → List ℕ → Type 0
+Heard Fine f run a given after numbers starts₀ ends₀ starts ends =
+    (a ≡ Accepted (reportOf f run))
+    × ((after ≡ wordsInPlaces (count given) (run .words))
+    × ((numbers ≡ run .phrases)
+    × ((starts ≡ startsOver (run .pieces) starts₀)
+    × (ends ≡ endsOver (run .pieces) ends₀))))
+Heard (Breaks why) f run a given after numbers starts₀ ends₀ starts ends = a ≡ Refused why

@@ -1,3 +1,0 @@
--- Laws of groups.
-pub mod Members
-pub mod Local

@@ -1,3 +1,0 @@
--- The words of one phrase, taken out of a list and put back.
-pub mod Groups
-pub mod Parts

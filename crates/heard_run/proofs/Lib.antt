@@ -1,2 +1,0 @@
--- Laws of a full run on levels that were heard before.
-pub mod Runs

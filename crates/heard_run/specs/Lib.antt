@@ -1,2 +1,0 @@
--- A full run on levels that were heard before.
-pub mod Parts

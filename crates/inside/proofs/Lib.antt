@@ -1,2 +1,0 @@
--- Laws of words inside a span.
-pub mod Inside

@@ -1,2 +1,0 @@
--- Words inside a span.
-pub mod Spread

@@ -1,0 +1,3 @@
+-- Laws of the tests behind the refusals.
+pub mod Finite
+pub mod Any

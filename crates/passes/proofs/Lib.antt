@@ -1,2 +1,0 @@
--- Laws of the passes.
-pub mod InPlace

@@ -1,4 +1,0 @@
--- Laws of the placing in phrases.
-pub mod InPlace
-pub mod Joined
-pub mod Facts

@@ -1,3 +1,0 @@
--- Words placed in the spans of their phrases.
-pub mod PhraseAlign
-pub mod Parts

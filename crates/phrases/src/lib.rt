@@ -1,1 +1,0 @@
-// Theorems only: placing words in phrases, as the definition builds it and as it is done in place (phrase_align.rs, align_phrases).

@@ -1,2 +1,0 @@
--- The tests in a row.
-mod Tests

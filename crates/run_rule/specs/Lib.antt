@@ -1,2 +1,0 @@
--- The tests of a full run, as the code makes them.
-pub mod Parts

@@ -1,0 +1,3 @@
+-- A full run after its levels.
+pub mod Stages
+pub mod Parts

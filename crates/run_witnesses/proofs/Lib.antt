@@ -1,2 +1,0 @@
--- Computed inputs of the full run.
-mod Witnesses

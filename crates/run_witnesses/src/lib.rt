@@ -1,1 +1,0 @@
-// Theorems alone: computed inputs of the full run, one for each answer.

@@ -1,3 +1,0 @@
--- Laws of the stages in a row.
-pub mod Places
-mod Stages

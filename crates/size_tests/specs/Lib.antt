@@ -1,2 +1,0 @@
--- The limits of document 01 on counts and lengths.
-pub mod Limits

@@ -1,2 +1,0 @@
--- Tails, onsets and ends in a row.
-mod Row

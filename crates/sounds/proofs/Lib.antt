@@ -1,2 +1,0 @@
--- Laws of the search for the last loud frame.
-pub mod Sound

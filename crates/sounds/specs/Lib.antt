@@ -1,3 +1,0 @@
--- Where a sound ends.
-pub mod Ends
-pub mod Parts

@@ -1,2 +1,0 @@
--- Laws of spreads.
-pub mod Sides

@@ -1,2 +1,0 @@
--- Spreads of words.
-pub mod Spread

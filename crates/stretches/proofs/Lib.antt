@@ -1,2 +1,0 @@
--- Laws of the run of a crushed word.
-pub mod Runs

@@ -1,2 +1,0 @@
--- The run of a crushed word.
-pub mod Even

@@ -1,2 +1,0 @@
--- Laws of the test of a time.
-pub mod Finite

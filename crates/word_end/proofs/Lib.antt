@@ -1,4 +1,0 @@
--- Laws of one word's times.
-pub mod EndOf
-pub mod Rise
-pub mod OneWord

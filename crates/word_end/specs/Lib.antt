@@ -1,3 +1,0 @@
--- One word's times, by the sound.
-pub mod Ends
-pub mod Parts

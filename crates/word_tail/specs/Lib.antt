@@ -1,3 +1,0 @@
--- What one word hands back.
-pub mod Parts
-pub mod Tails
