@@ -263,7 +263,7 @@ pub extern "C" fn qiluvrait_hand_back_tails(
         let after = words (now (starts .exit)) (now (ends .exit)) (now (letters .entry)) (now (units .entry)) (now (keys .entry)) in
         ⌜ reply r after ≡ replyOf (tailsCall before (now (levels .entry)) floor count) ⌝ }
 {
-    let answer = tails::hand_back_tails(starts, ends, letters, units, keys, levels, floor, count);
+    let answer = tails::hand_back_tails(levels, floor, count, starts, ends, letters, units, keys);
     moved(answer)
 }
 
@@ -283,7 +283,7 @@ pub extern "C" fn qiluvrait_snap_onsets(
         let after = words (now (starts .exit)) (now (ends .entry)) (now (letters .entry)) (now (units .entry)) (now (keys .entry)) in
         ⌜ reply r after ≡ replyOf (onsetsCall before (now (levels .entry)) floor count) ⌝ }
 {
-    let answer = onsets::snap_onsets(starts, ends, letters, units, keys, levels, floor, count);
+    let answer = onsets::snap_onsets(levels, floor, count, starts, ends, letters, units, keys);
     moved(answer)
 }
 
@@ -305,14 +305,14 @@ pub extern "C" fn qiluvrait_snap_ends(
         ⌜ reply r after ≡ replyOf (endsCall before (now (levels .entry)) floor count duration) ⌝ }
 {
     let answer = ends::snap_ends(
+        levels,
+        floor,
+        count,
         starts,
         ends,
         letters,
         units,
         keys,
-        levels,
-        floor,
-        count,
         duration,
     );
     moved(answer)
@@ -463,14 +463,14 @@ pub extern "C" fn qiluvrait_fit_to_sound(
         ⌜ reply r after ≡ replyOf (fitCall before (now (levels .entry)) floor count duration) ⌝ }
 {
     let answer = fit_to_sound::fit_to_sound(
+        levels,
+        floor,
+        count,
         starts,
         ends,
         letters,
         units,
         keys,
-        levels,
-        floor,
-        count,
         duration,
     );
     moved(answer)

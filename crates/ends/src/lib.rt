@@ -12,6 +12,7 @@ use limits::Answer;
 
 pub mod one_word;
 pub mod sound;
+pub mod view;
 
 // Stores the times of the first of two words, and the edge as the second's start.
 fn set_pair(starts: &mut [f64], ends: &mut [f64], i: usize, t: Times)
@@ -79,14 +80,14 @@ pub fn move_ends(
 
 // Moves loose ends to where the sound stops, of words, levels and a duration within the limits (onsets.rs, snap_ends).
 pub fn snap_ends(
+    levels: &[f64],
+    floor: f64,
+    count: usize,
     starts: &mut [f64],
     ends: &mut [f64],
     letters: &[u32],
     units: &[u32],
     keys: &[u32],
-    levels: &[f64],
-    floor: f64,
-    count: usize,
     duration: f64,
 ) -> Answer
     ensures { λ r.

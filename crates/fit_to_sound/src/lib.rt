@@ -51,14 +51,14 @@ pub fn fit_words(
 
 // Fits words to their sound, of words, levels and a duration within the limits (fit.rs, fit_to_sound).
 pub fn fit_to_sound(
+    levels: &[f64],
+    floor: f64,
+    count: usize,
     starts: &mut [f64],
     ends: &mut [f64],
     letters: &[u32],
     units: &[u32],
     keys: &[u32],
-    levels: &[f64],
-    floor: f64,
-    count: usize,
     duration: f64,
 ) -> Answer
     ensures { λ r.

@@ -22,14 +22,14 @@ pub fn fit_to_sound<'a>(
         ⌜ output r after ≡ fitCall before (now (e .entry .levels)) (e .entry .floor) (e .entry .count) duration ⌝ }
 {
     super::fit_to_sound(
+        e.levels,
+        e.floor,
+        e.count,
         starts,
         ends,
         letters,
         units,
         keys,
-        e.levels,
-        e.floor,
-        e.count,
         duration,
     )
 }

@@ -81,14 +81,14 @@ fn is_fitted(kind: u8, levels: &[f64; 64], start: f64, r: u64) -> bool {
     let letters = [4u32; 1];
     let ones = [1u32; 1];
     let answer = fit_to_sound::fit_to_sound(
+        levels,
+        FLOOR,
+        SAMPLES,
         &mut starts,
         &mut ends,
         &letters,
         &ones,
         &ones,
-        levels,
-        FLOOR,
-        SAMPLES,
         DURATION,
     );
     match answer {

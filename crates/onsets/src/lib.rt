@@ -12,6 +12,8 @@ use base::Rule;
 use base::Times;
 use limits::Answer;
 
+pub mod view;
+
 // From so many seconds on, what lies between two words is a pause.
 const PAUSE: f64 = 0.15;
 // So many frames before its own a start may reach.
@@ -118,14 +120,14 @@ pub fn move_onsets(starts: &mut [f64], ends: &[f64], levels: &[f64], floor: f64)
 
 // Moves starts back to where the sound rises, of words and levels within the limits (onsets.rs, snap_onsets).
 pub fn snap_onsets(
+    levels: &[f64],
+    floor: f64,
+    count: usize,
     starts: &mut [f64],
     ends: &[f64],
     letters: &[u32],
     units: &[u32],
     keys: &[u32],
-    levels: &[f64],
-    floor: f64,
-    count: usize,
 ) -> Answer
     ensures { λ r.
         let before = words (now (starts .entry)) (now (ends .entry)) (now (letters .entry)) (now (units .entry)) (now (keys .entry)) in

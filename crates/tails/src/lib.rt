@@ -11,6 +11,7 @@ use base::Times;
 use limits::Answer;
 
 pub mod one_word;
+pub mod view;
 
 // Hands each tail of sound back to the word before, where a word starts on it (onsets.rs, hand_back_tails); nothing is checked.
 pub fn move_tails(starts: &mut [f64], ends: &mut [f64], letters: &[u32], levels: &[f64], floor: f64)
@@ -36,14 +37,14 @@ pub fn move_tails(starts: &mut [f64], ends: &mut [f64], letters: &[u32], levels:
 
 // Hands tails of sound back to the words before, of words and levels within the limits (onsets.rs, hand_back_tails).
 pub fn hand_back_tails(
+    levels: &[f64],
+    floor: f64,
+    count: usize,
     starts: &mut [f64],
     ends: &mut [f64],
     letters: &[u32],
     units: &[u32],
     keys: &[u32],
-    levels: &[f64],
-    floor: f64,
-    count: usize,
 ) -> Answer
     ensures { λ r.
         let before = words (now (starts .entry)) (now (ends .entry)) (now (letters .entry)) (now (units .entry)) (now (keys .entry)) in

@@ -11,6 +11,8 @@ use base::Rule;
 use base::Times;
 use limits::Answer;
 
+pub mod view;
+
 // One frame more, where frame k is loud.
 fn counted(levels: &[f64], floor: f64, k: usize, n: usize) -> usize
     requires { ⌜ n ≤ 2 ^ 40 ⌝ }

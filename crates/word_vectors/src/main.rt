@@ -159,14 +159,14 @@ fn is_onset(levels: &[f64; 64], start: f64, r: u64) -> bool {
     let ends = [DURATION; 1];
     let ones = [1u32; 1];
     let answer = onsets::snap_onsets(
+        levels,
+        FLOOR,
+        SAMPLES,
         &mut starts,
         &ends,
         &ones,
         &ones,
         &ones,
-        levels,
-        FLOOR,
-        SAMPLES,
     );
     match answer {
         limits::Answer::Accepted => vector_rows::same(starts[0], r),
@@ -180,14 +180,14 @@ fn is_end(levels: &[f64; 64], start: f64, r: u64) -> bool {
     let mut ends = [DURATION; 1];
     let ones = [1u32; 1];
     let answer = ends::snap_ends(
+        levels,
+        FLOOR,
+        SAMPLES,
         &mut starts,
         &mut ends,
         &ones,
         &ones,
         &ones,
-        levels,
-        FLOOR,
-        SAMPLES,
         DURATION,
     );
     match answer {
@@ -203,14 +203,14 @@ fn is_handed_back(levels: &[f64; 64], start: f64, r: u64) -> bool {
     let letters = [4u32; 2];
     let ones = [1u32; 2];
     let answer = tails::hand_back_tails(
+        levels,
+        FLOOR,
+        SAMPLES,
         &mut starts,
         &mut ends,
         &letters,
         &ones,
         &ones,
-        levels,
-        FLOOR,
-        SAMPLES,
     );
     match answer {
         limits::Answer::Accepted => vector_rows::same(starts[1], r),

@@ -10,10 +10,10 @@ moved-requires : tie.Need-moved-requires
 moved-requires c κs = tt
 
 same-length : tie.Need-same-length
-same-length c = c .before .before .before .before .before .fit-to-sound .kept .0
+same-length c = c .before .before .before .before .before .fit-to-sound .kept .1 .1 .1 .0
 
 same-length-2 : tie.Need-same-length-2
-same-length-2 c = c .before .before .before .before .before .fit-to-sound .kept .1 .0
+same-length-2 c = c .before .before .before .before .before .fit-to-sound .kept .1 .1 .1 .1 .0
 
 returns : tie.Need-returns
 returns c = reply-made _ (c .moved .ensures) (c .before .before .before .before .before .fit-to-sound .ensures)
