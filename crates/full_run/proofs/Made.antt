@@ -1,45 +1,35 @@
 -- What the code makes: the tests as the definition has them, the levels in the first places, and the answer of a run. Assumes nothing.
-use Prim.Native.Nat.{ℕ, _-_, _/_, _≤_, _^_, min}
+use Prim.Native.Nat.{ℕ, _-_, _≤_, min}
 use mathlib.Core.Path.{_≡_, refl, sym, ap, subst, _∙_}
 use mathlib.Core.List.{List, _++_}
 use native.Mathlib.Omega.{arith}
 use native.Mathlib.Nat.{sub-zero}
-use borrow.Author.Tests.{eq-eqb}
 use lib.ListN.{length, drop}
 use lib.Ieee.{Float}
 use Rattle.base.specs.Words.{Words, words, Spans, spans, count, part}
 use Rattle.base.specs.declared.Refusal.{Refusal}
 use Rattle.base.specs.declared.Rule.{Rule}
 use Rattle.base.specs.declared.Rule.the-variants.{Fine, Breaks}
-use Rattle.limits.specs.Limits.{otherLevels}
-use Rattle.limits.specs.declared.Applies.{Applies}
 use Rattle.limits.specs.Order.{chain}
-use Rattle.word_calls.specs.Calls.{ofWords, withLevels, withSpans, withPlaces}
 use Rattle.word_calls.proofs.Within.{one-length, letters-most}
-use Rattle.envelope.specs.Envelope.{hop, frames, levels, floor, loudRow, quietRow}
+use Rattle.envelope.specs.Envelope.{frames, levels, floor, loudRow, quietRow}
 use Rattle.envelope.proofs.Places.{length-levels, front-levels}
-use Rattle.pieces.specs.Pieces.{need}
 use Rattle.pieces.specs.Parts.{startsOver, endsOver, Ready as PiecesReady}
 use Rattle.fit_file.specs.FitFile.{workPlaces}
 use Rattle.full_run.specs.Parts.{appliesTo}
 use Rattle.run_stages.specs.Parts.{Ready, FewLetters, Running}
-use Rattle.run_stages.specs.Stages.{Run, runOn}
+use Rattle.run_stages.specs.Stages.{runOn}
 use Rattle.run_stages.specs.declared.Outcome.{Outcome}
-use Rattle.full_run.specs.FullRun.{Input, input, runOf, withSamples, runApplies, output, accepted, fullRun}
-use Rattle.full_run.specs.declared.Report.{Report}
+use Rattle.full_run.specs.FullRun.{Input, input, runOf, runApplies, output, accepted, fullRun}
 use Rattle.full_run.specs.declared.Answer.{Answer}
 use Rattle.full_run.specs.declared.Answer.the-variants.{Accepted, Refused}
-use Rattle.full_run.proofs.Promises.{RunWithin, within, run-by}
+use Rattle.full_run.proofs.Promises.{within, run-by}
 
--- ---- a recording has as many levels as frames: no test of levels applies
-own-levels : (samples : ℕ) (ws : Words) → withLevels (samples / hop) samples (ofWords ws) ≡ withSamples samples (ofWords ws)
-unfolding withLevels withSamples ofWords
-own-levels samples ws = rw (eq-eqb (samples / hop) (samples / hop) refl)
-
+-- ---- the tests as the definition has them
 pub applies-are : (samples : List Float) (ws : Words) (spans : Spans) (phrases : List ℕ) (ls : List Float) (s e : List ℕ) (work : ℕ)
     → appliesTo (length samples) ws spans (length phrases) (length ls) (min (length s) (length e)) work ≡ runApplies (input samples ws spans phrases ls s e work)
 unfolding appliesTo runApplies
-applies-are samples ws spans phrases ls s e work = rw (own-levels (length samples) ws)
+applies-are samples ws spans phrases ls s e work = refl
 
 -- ---- the levels in the first places, and their floor
 pub heard-is : {ls : List Float} {f : Float} (samples places : List Float) → ls ≡ levels samples ++ drop (frames samples) places → f ≡ floor (part 0 (frames samples) ls)

@@ -1,12 +1,12 @@
 -- The full run in plain words: accepted exactly when words, spans and samples are within the limits and the places suffice, refused exactly with the first refusal
 -- that applies; a refusal changes nothing, and refusals 7 and 8 cannot arise. By reading what the tests find. Assumes nothing.
 use Prim.Native.Nat.{ℕ, _≤_, min}
-use mathlib.Core.Bool.{Bool, true, false, _||_, true≢false}
+use mathlib.Core.Bool.{Bool, true, false, true≢false}
 use mathlib.Core.List.{List, [], _∷_}
 use mathlib.Core.Logic.{_↔_, _⊎_, inl, inr}
 use mathlib.Core.Path.{_≡_, refl, sym, ap, _∙_}
 use native.Mathlib.Omega.{arith}
-use borrow.Author.Tests.{ltb-false, le-ltb, eq-eqb}
+use borrow.Author.Tests.{eq-eqb}
 use lib.ListN.{length}
 use lib.Ieee.{Float}
 use Rattle.base.specs.Words.{count}
@@ -17,15 +17,15 @@ use Rattle.base.specs.declared.Rule.{Rule}
 use Rattle.base.specs.declared.Rule.the-variants.{Fine, Breaks}
 use Rattle.base.proofs.First.{None, First, first-skip, first-here, fine-none, none-fine, breaks-first, first-breaks}
 use Rattle.limits.specs.Limits.{otherLevels}
-use Rattle.limits.specs.declared.Applies.{Applies}
-use Rattle.limits.specs.Order.{inOrder, chain}
-use Rattle.word_calls.specs.Calls.{ofWords, withSpans, withPlaces}
-use Rattle.word_calls.proofs.Within.{WordsWithin, SpansWithin, words-exactly, spans-exactly, places-exactly}
+use Rattle.limits.specs.Order.{when, also, inOrder, chain}
+use Rattle.word_calls.specs.Calls.{ofWords, ofSamples, ofSpans, ofPlaces}
+use Rattle.limits.proofs.Joined.{also-exactly}
+use Rattle.word_calls.proofs.Within.{WordsWithin, SpansWithin, words-exactly, samples-exactly, spans-exactly, places-exactly}
 use Rattle.envelope.specs.Envelope.{frames, levels, quietRow}
 use Rattle.envelope.proofs.Places.{length-levels}
 use Rattle.pieces.specs.Pieces.{need, walked}
 use Rattle.pieces.proofs.Walk.{never-stuck}
-use Rattle.full_run.specs.FullRun.{Input, runOf, withSamples, runApplies, Output, output, accepted, byRule, fullRun}
+use Rattle.full_run.specs.FullRun.{Input, runOf, runApplies, Output, output, accepted, byRule, fullRun}
 use Rattle.full_run.specs.declared.Report.{Report}
 use Rattle.full_run.specs.declared.Answer.the-variants.{Accepted, Refused}
 
@@ -40,21 +40,6 @@ pub record RunWithin (i : Input) : Type 0 where
   pub end-places : need (frames (i .samples)) ≤ length (i .pieceEnds)
   pub phrase-places : count (i .words) ≤ length (i .phrases)
   pub work-places : count (i .words) ≤ i .work
-
--- ---- with so many samples
-samples-exactly : (a : Applies) (samples : ℕ) → (None (inOrder a) × (samples ≤ 57600000)) ↔ None (inOrder (withSamples samples a))
-unfolding inOrder withSamples
-samples-exactly a samples = (to, from)
-  where
-    neither : (p q : Bool) → (p || q) ≡ false → (p ≡ false) × (q ≡ false)
-    neither true q h = absurd (true≢false h)
-    neither false q h = (refl, h)
-
-    to : None (inOrder a) × (samples ≤ 57600000) → None (inOrder (withSamples samples a))
-    to (n, l) = (n .0, (rw (n .1 .0) (le-ltb 57600000 samples l), n .1 .1))
-
-    from : None (inOrder (withSamples samples a)) → None (inOrder a) × (samples ≤ 57600000)
-    from n = let h = neither _ _ (n .1 .0) in ((n .0, (h .0, n .1 .1)), ltb-false 57600000 samples (h .1))
 
 -- ---- a refusal of which no test applies is not the first that applies
 abbrev Absent : Refusal → List Test → Type 0
@@ -72,62 +57,38 @@ absent-first why (t ∷ ts) a h = go (t .applies) refl (a .0) (absent-first why 
     go true e (inr k) later = k (let r : Breaks (t .refusal) ≡ Breaks why = sym (first-here t ts e) ∙ h in let s : t .refusal ≡ why = cc in ap number s)
 
 module _ (i : Input) where
-  abbrev heard : Applies
-  heard = withSamples (length (i .samples)) (ofWords (i .words))
-
-  abbrev given : Applies
-  given = withSpans (i .spans) heard
-
-  abbrev levelled : Applies
-  levelled = withPlaces (length (i .levels)) (frames (i .samples)) given
-
-  abbrev cut : Applies
-  cut = withPlaces (min (length (i .pieceStarts)) (length (i .pieceEnds))) (need (frames (i .samples))) levelled
-
-  abbrev numbered : Applies
-  numbered = withPlaces (length (i .phrases)) (count (i .words)) cut
-
   -- ---- no test applies exactly when all is within the limits
-  pub within-exactly : RunWithin i ↔ None (inOrder (runApplies i))
+  tests-exactly : ((WordsWithin (i .words) × (SpansWithin (i .spans) × (length (i .samples) ≤ 57600000)))
+      × ((frames (i .samples) ≤ length (i .levels)) × ((need (frames (i .samples)) ≤ min (length (i .pieceStarts)) (length (i .pieceEnds)))
+      × ((count (i .words) ≤ length (i .phrases)) × (count (i .words) ≤ i .work))))) ↔ None (inOrder (runApplies i))
   unfolding runApplies
+  tests-exactly =
+      also-exactly _ _ (also-exactly _ _ (words-exactly (i .words)) (also-exactly _ _ (spans-exactly (i .spans)) (samples-exactly (length (i .samples)))))
+      (also-exactly _ _ (places-exactly (length (i .levels)) (frames (i .samples)))
+      (also-exactly _ _ (places-exactly (min (length (i .pieceStarts)) (length (i .pieceEnds))) (need (frames (i .samples))))
+      (also-exactly _ _ (places-exactly (length (i .phrases)) (count (i .words))) (places-exactly (i .work) (count (i .words))))))
+
+  pub within-exactly : RunWithin i ↔ None (inOrder (runApplies i))
   within-exactly = (to, from)
     where
-      w : WordsWithin (i .words) ↔ None (inOrder (ofWords (i .words)))
-      w = words-exactly (i .words)
+      to : RunWithin i → None (inOrder (runApplies i))
+      to r = tests-exactly .0 (
+        (r .words-within, (r .spans-within, r .few-samples)),
+        (r .level-places, (omega (arith, r .start-places, r .end-places), (r .phrase-places, r .work-places))),
+      )
 
-      to : RunWithin i → None (inOrder (withPlaces (i .work) (count (i .words)) numbered))
-      to r =
-          places-exactly numbered (i .work) (count (i .words)) .0 (
-            places-exactly cut (length (i .phrases)) (count (i .words)) .0 (
-              places-exactly levelled (min (length (i .pieceStarts)) (length (i .pieceEnds))) (need (frames (i .samples))) .0 (
-                places-exactly given (length (i .levels)) (frames (i .samples)) .0 (
-                  spans-exactly heard (i .spans) .0 (samples-exactly (ofWords (i .words)) (length (i .samples)) .0 (w .0 (r .words-within), r .few-samples), r .spans-within),
-                  r .level-places,
-                ),
-                omega (arith, r .start-places, r .end-places),
-              ),
-              r .phrase-places,
-            ),
-            r .work-places,
-          )
-
-      from : None (inOrder (withPlaces (i .work) (count (i .words)) numbered)) → RunWithin i
+      from : None (inOrder (runApplies i)) → RunWithin i
       from n =
-          let n₁ = places-exactly numbered (i .work) (count (i .words)) .1 n in
-          let n₂ = places-exactly cut (length (i .phrases)) (count (i .words)) .1 (n₁ .0) in
-          let n₃ = places-exactly levelled (min (length (i .pieceStarts)) (length (i .pieceEnds))) (need (frames (i .samples))) .1 (n₂ .0) in
-          let n₄ = places-exactly given (length (i .levels)) (frames (i .samples)) .1 (n₃ .0) in
-          let n₅ = spans-exactly heard (i .spans) .1 (n₄ .0) in
-          let n₆ = samples-exactly (ofWords (i .words)) (length (i .samples)) .1 (n₅ .0) in
+          let t = tests-exactly .1 n in
           record {
-            words-within = w .1 (n₆ .0);
-            spans-within = n₅ .1;
-            few-samples = n₆ .1;
-            level-places = n₄ .1;
-            start-places = omega (arith, n₃ .1);
-            end-places = omega (arith, n₃ .1);
-            phrase-places = n₂ .1;
-            work-places = n₁ .1;
+            words-within = t .0 .0;
+            spans-within = t .0 .1 .0;
+            few-samples = t .0 .1 .1;
+            level-places = t .1 .0;
+            start-places = omega (arith, t .1 .1 .0);
+            end-places = omega (arith, t .1 .1 .0);
+            phrase-places = t .1 .1 .1 .0;
+            work-places = t .1 .1 .1 .1;
           }
 
   -- ---- the run by what the tests find, and what an answer tells of it
@@ -179,7 +140,7 @@ module _ (i : Input) where
 
   -- ---- 7 and 8 cannot arise: no test for them applies
   pub never-7 : fullRun i .answer ≡ Refused Levels → ⊥
-  unfolding chain inOrder runApplies withPlaces withSpans withSamples ofWords
+  unfolding chain inOrder runApplies ofPlaces ofSpans ofSamples ofWords also when
   never-7 h =
       absent-first Levels (inOrder (runApplies i)) (
         inr (λ e. omega (arith, e)),
@@ -187,7 +148,7 @@ module _ (i : Input) where
       ) (rule-refused Levels h)
 
   pub never-8 : fullRun i .answer ≡ Refused Cut → ⊥
-  unfolding chain inOrder runApplies withPlaces withSpans withSamples ofWords
+  unfolding chain inOrder runApplies ofPlaces ofSpans ofSamples ofWords also when
   never-8 h =
       absent-first Cut (inOrder (runApplies i)) (
         inr (λ e. omega (arith, e)),

@@ -18,8 +18,8 @@ use Rattle.roots.specs.Sqrt.{sqrt}
 use Rattle.envelope.specs.Envelope as sounds
 use Rattle.envelope.specs.Envelope.{levels, peak, floor, loudRow, quietRow}
 use Rattle.limits.specs.Limits.{any, timeOf}
-use Rattle.limits.specs.Order.{inOrder, chain}
-use Rattle.word_calls.specs.Calls.{uneven, ofWords, unevenSpans, manySpans, withSpans, withPlaces}
+use Rattle.limits.specs.Order.{when, also, inOrder, chain}
+use Rattle.word_calls.specs.Calls.{uneven, ofWords, ofSamples, unevenSpans, manySpans, ofSpans, ofPlaces}
 use Rattle.pieces.specs.Pieces.{pieceTurn, walked, pieces, need, over}
 use Rattle.loops.specs.Loops.{equal, same, copiesEnd, isLoop, loopTurn, pass, collapseLoops}
 use Rattle.tails.specs.Tails.{tailTurn, handBackTails}
@@ -32,7 +32,7 @@ use Rattle.fit_to_sound.specs.FitToSound as starts
 use Rattle.fit_to_sound.specs.FitToSound.{fitToSound}
 use Rattle.fit_file.specs.FitFile.{durationOf}
 use Rattle.run_stages.specs.Stages.{snapped, asOne, settled, Run, runOn}
-use Rattle.full_run.specs.FullRun.{Input, runOf, withSamples, runApplies, Output, output, reportOf, fullRun}
+use Rattle.full_run.specs.FullRun.{Input, runOf, runApplies, Output, output, reportOf, fullRun}
 use Rattle.full_run.specs.declared.Answer.the-variants.{Accepted, Refused}
 
 abbrev zero-s : Float
@@ -87,7 +87,7 @@ unfolding runOn snapped settled asOne durationOf wordsInPlaces loudRow quietRow 
 left-computed = refl
 
 by-levels : fullRun (lent (one half) no-spans 1) ≡ left (levels tone) (length tone)
-unfolding fullRun chain inOrder runApplies ofWords withSamples withSpans withPlaces uneven unevenSpans manySpans first any timeOf need tone lt le eq ofBits runOf
+unfolding fullRun chain inOrder runApplies ofWords also when ofSamples ofSpans ofPlaces uneven unevenSpans manySpans first any timeOf need tone lt le eq ofBits runOf
 by-levels = refl
 
 accepts : fullRun (lent (one half) no-spans 1)
@@ -101,27 +101,27 @@ refused why i = output (Refused why) (i .words) (i .phrases) (i .levels) (i .pie
 
 -- two ends for one word
 refuses-3 : let i = lent (words (zero-s ∷ []) (half ∷ half ∷ []) (4 ∷ []) (4 ∷ []) (1 ∷ [])) no-spans 1 in fullRun i ≡ refused Lengths i
-unfolding fullRun chain inOrder runApplies ofWords withSamples withSpans withPlaces uneven unevenSpans manySpans first
+unfolding fullRun chain inOrder runApplies ofWords also when ofSamples ofSpans ofPlaces uneven unevenSpans manySpans first
 refuses-3 = refl
 
 -- a span that counts 4,097 words
 refuses-4 : let i = lent (one half) (spans (zero-s ∷ []) (half ∷ []) (4097 ∷ [])) 1 in fullRun i ≡ refused Counts i
-unfolding fullRun chain inOrder runApplies ofWords withSamples withSpans withPlaces uneven unevenSpans manySpans first any tone
+unfolding fullRun chain inOrder runApplies ofWords also when ofSamples ofSpans ofPlaces uneven unevenSpans manySpans first any tone
 refuses-4 = refl
 
 -- a word that ends at no time
 refuses-1 : let i = lent (one nan) no-spans 1 in fullRun i ≡ refused Time i
-unfolding fullRun chain inOrder runApplies ofWords withSamples withSpans withPlaces uneven unevenSpans manySpans first any timeOf tone lt le eq ofBits
+unfolding fullRun chain inOrder runApplies ofWords also when ofSamples ofSpans ofPlaces uneven unevenSpans manySpans first any timeOf tone lt le eq ofBits
 refuses-1 = refl
 
 -- a word of no letters
 refuses-2 : let i = lent (words (zero-s ∷ []) (half ∷ []) (0 ∷ []) (4 ∷ []) (1 ∷ [])) no-spans 1 in fullRun i ≡ refused Letters i
-unfolding fullRun chain inOrder runApplies ofWords withSamples withSpans withPlaces uneven unevenSpans manySpans first any timeOf tone lt le eq ofBits
+unfolding fullRun chain inOrder runApplies ofWords also when ofSamples ofSpans ofPlaces uneven unevenSpans manySpans first any timeOf tone lt le eq ofBits
 refuses-2 = refl
 
 -- no work place for the word
 refuses-6-work : let i = lent (one half) no-spans 0 in fullRun i ≡ refused Places i
-unfolding fullRun chain inOrder runApplies ofWords withSamples withSpans withPlaces uneven unevenSpans manySpans first any timeOf need tone lt le eq ofBits
+unfolding fullRun chain inOrder runApplies ofWords also when ofSamples ofSpans ofPlaces uneven unevenSpans manySpans first any timeOf need tone lt le eq ofBits
 refuses-6-work = refl
 
 -- one list of places is empty: the phrase numbers', the levels', and each of the pieces'
@@ -129,17 +129,17 @@ abbrev short : List ℕ → List Float → List ℕ → List ℕ → Input
 short phrases ls s e = record { samples = tone; words = one half; spans = no-spans; phrases = phrases; levels = ls; pieceStarts = s; pieceEnds = e; work = 1 }
 
 refuses-6-phrases : let i = short [] (half ∷ []) (7 ∷ []) (7 ∷ []) in fullRun i ≡ refused Places i
-unfolding fullRun chain inOrder runApplies ofWords withSamples withSpans withPlaces uneven unevenSpans manySpans first any timeOf need tone lt le eq ofBits
+unfolding fullRun chain inOrder runApplies ofWords also when ofSamples ofSpans ofPlaces uneven unevenSpans manySpans first any timeOf need tone lt le eq ofBits
 refuses-6-phrases = refl
 
 refuses-6-levels : let i = short (7 ∷ []) [] (7 ∷ []) (7 ∷ []) in fullRun i ≡ refused Places i
-unfolding fullRun chain inOrder runApplies ofWords withSamples withSpans withPlaces uneven unevenSpans manySpans first any timeOf need tone lt le eq ofBits
+unfolding fullRun chain inOrder runApplies ofWords also when ofSamples ofSpans ofPlaces uneven unevenSpans manySpans first any timeOf need tone lt le eq ofBits
 refuses-6-levels = refl
 
 refuses-6-starts : let i = short (7 ∷ []) (half ∷ []) [] (7 ∷ []) in fullRun i ≡ refused Places i
-unfolding fullRun chain inOrder runApplies ofWords withSamples withSpans withPlaces uneven unevenSpans manySpans first any timeOf need tone lt le eq ofBits
+unfolding fullRun chain inOrder runApplies ofWords also when ofSamples ofSpans ofPlaces uneven unevenSpans manySpans first any timeOf need tone lt le eq ofBits
 refuses-6-starts = refl
 
 refuses-6-ends : let i = short (7 ∷ []) (half ∷ []) (7 ∷ []) [] in fullRun i ≡ refused Places i
-unfolding fullRun chain inOrder runApplies ofWords withSamples withSpans withPlaces uneven unevenSpans manySpans first any timeOf need tone lt le eq ofBits
+unfolding fullRun chain inOrder runApplies ofWords also when ofSamples ofSpans ofPlaces uneven unevenSpans manySpans first any timeOf need tone lt le eq ofBits
 refuses-6-ends = refl

@@ -1,6 +1,5 @@
 -- Document 01, "Full run". Assumes nothing.
 use Prim.Native.Nat.{ℕ, min}
-use mathlib.Core.Bool.{_||_}
 use mathlib.Core.Path.{_≡_}
 use mathlib.Core.List.{List, _++_, map}
 use lib.ListN.{length, drop}
@@ -8,10 +7,9 @@ use lib.Ieee.{Float}
 use Rattle.base.specs.Words.{Words, Spans, count, wordsInPlaces}
 use Rattle.base.specs.declared.Rule.{Rule}
 use Rattle.base.specs.declared.Rule.the-variants.{Fine, Breaks}
-use Rattle.limits.specs.Limits.{manySamples}
 use Rattle.limits.specs.declared.Applies.{Applies}
-use Rattle.limits.specs.Order.{chain}
-use Rattle.word_calls.specs.Calls.{ofWords, withSpans, withPlaces}
+use Rattle.limits.specs.Order.{also, chain}
+use Rattle.word_calls.specs.Calls.{ofWords, ofSamples, ofSpans, ofPlaces}
 use Rattle.envelope.specs.Envelope.{frames, levels, floor, loudRow, quietRow}
 use Rattle.pieces.specs.Pieces.{need, over}
 use Rattle.run_stages.specs.Stages.{Run, runOn}
@@ -40,25 +38,14 @@ runOf i =
     let ls = levels (i .samples) in
     runOn (loudRow (floor ls) ls) (quietRow (floor ls) ls) (length (i .samples)) (i .spans) (i .phrases) (i .words)
 
--- ---- And what applies of so many samples: 4.
-unfoldable pub withSamples : ℕ → Applies → Applies
-withSamples samples a = record {
-  lengths = a .lengths;
-  counts = a .counts || manySamples samples;
-  times = a .times;
-  letters = a .letters;
-  levels = a .levels;
-  places = a .places;
-  cut = a .cut;
-}
-
 -- ---- Refusals 3, 4, 1, 2, 6: "It needs the places of its levels and pieces, and a phrase number and a work place for every word."
 unfoldable pub runApplies : Input → Applies
 runApplies i =
-    let given = withSpans (i .spans) (withSamples (length (i .samples)) (ofWords (i .words))) in
-    let heard = withPlaces (length (i .levels)) (frames (i .samples)) given in
-    let cut = withPlaces (min (length (i .pieceStarts)) (length (i .pieceEnds))) (need (frames (i .samples))) heard in
-    withPlaces (i .work) (count (i .words)) (withPlaces (length (i .phrases)) (count (i .words)) cut)
+    also (also (ofWords (i .words)) (also (ofSpans (i .spans)) (ofSamples (length (i .samples)))))
+    (also (ofPlaces (length (i .levels)) (frames (i .samples)))
+    (also (ofPlaces (min (length (i .pieceStarts)) (length (i .pieceEnds))) (need (frames (i .samples))))
+    (also (ofPlaces (length (i .phrases)) (count (i .words)))
+    (ofPlaces (i .work) (count (i .words))))))
 
 -- ---- What a call gives back, and what the lent places hold afterwards.
 pub record Output : Type 0 where

@@ -4,8 +4,9 @@ use mathlib.Core.Path.{_≡_}
 use mathlib.Core.List.{List}
 use lib.Ieee.{Float}
 use Rattle.base.specs.Words.{Words, Spans, count, wordsInPlaces}
+use Rattle.limits.specs.Order.{also}
 use Rattle.limits.specs.declared.Applies.{Applies}
-use Rattle.word_calls.specs.Calls.{ofWords, withLevels, withSpans, withPlaces}
+use Rattle.word_calls.specs.Calls.{ofWords, ofSamples, ofSpans, ofPlaces}
 use Rattle.envelope.specs.Envelope.{hop}
 use Rattle.pieces.specs.Pieces.{need}
 use Rattle.base.specs.declared.Rule.{Rule}
@@ -18,12 +19,11 @@ use Rattle.full_run.specs.declared.Answer.the-variants.{Accepted, Refuse
 
 -- ======== `rule`
 
--- ---- What applies, of so many samples and places, as the code tests it: the levels of the recording itself are as many as its frames.
+-- ---- What applies, of so many samples and places.
 unfoldable pub appliesTo : ℕ → Words → Spans → ℕ → ℕ → ℕ → ℕ → Applies
 appliesTo samples ws spans phrases levels pieces work =
-    let given = withSpans spans (withLevels (samples / hop) samples (ofWords ws)) in
-    let cut = withPlaces pieces (need (samples / hop)) (withPlaces levels (samples / hop) given) in
-    withPlaces work (count ws) (withPlaces phrases (count ws) cut)
+    also (also (ofWords ws) (also (ofSpans spans) (ofSamples samples)))
+    (also (ofPlaces levels (samples / hop)) (also (ofPlaces pieces (need (samples / hop))) (also (ofPlaces phrases (count ws)) (ofPlaces work (count ws)))))
 
 -- ======== `heard`
 

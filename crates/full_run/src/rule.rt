@@ -29,15 +29,13 @@ pub fn judge(
         let allSpans = spans (now («span_starts» .entry)) (now («span_ends» .entry)) (now (counts .entry)) in
         ⌜ r ≡ chain (appliesTo samples before allSpans phrases levels pieces work) ⌝ }
 {
-    // The levels are the run's own, as many as its frames: 7 never applies.
-    let a = word_calls::with_levels(
-        word_calls::of_words(starts, ends, letters, units, keys),
-        samples / HOP,
-        samples,
-    );
-    let b = word_calls::with_spans(a, span_starts, span_ends, counts);
-    let heard = word_calls::with_places(b, levels, samples / HOP);
-    let cut = word_calls::with_places(heard, pieces, pieces::places_needed(samples / HOP));
-    let numbered = word_calls::with_places(cut, phrases, keys.len());
-    limits::chain(word_calls::with_places(numbered, work, keys.len()))
+    let words = word_calls::of_words(starts, ends, letters, units, keys);
+    let spans = word_calls::of_spans(span_starts, span_ends, counts);
+    let given = limits::also(words, limits::also(spans, word_calls::of_samples(samples)));
+    let heard = word_calls::of_places(levels, samples / HOP);
+    let cut = word_calls::of_places(pieces, pieces::places_needed(samples / HOP));
+    let numbered = word_calls::of_places(phrases, keys.len());
+    let fitted = word_calls::of_places(work, keys.len());
+    let lent = limits::also(heard, limits::also(cut, limits::also(numbered, fitted)));
+    limits::chain(limits::also(given, lent))
 }

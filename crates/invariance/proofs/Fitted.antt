@@ -16,9 +16,9 @@ use Rattle.js.specs.Js.{under, jsMin, jsMax}
 use Rattle.frames.specs.Frames.{floorI64, frameAt, frameFromZero, frameSeconds}
 use Rattle.envelope.specs.Envelope.{levels, peak, floor, loudRow}
 use Rattle.limits.specs.Limits.{any, timeOf}
-use Rattle.limits.specs.Order.{inOrder, chain}
+use Rattle.limits.specs.Order.{when, also, inOrder, chain}
 use Rattle.limits.specs.declared.Answer.the-variants.{Accepted}
-use Rattle.word_calls.specs.Calls.{uneven, ofWords, withLevels, withList, unevenSpans, manySpans, withSpans, withPlaces, phrasesRule, Output, output}
+use Rattle.word_calls.specs.Calls.{uneven, ofWords, ofSamples, ofLevels, ofList, unevenSpans, manySpans, ofSpans, ofPlaces, phrasesRule, Output, output}
 use Rattle.share.specs.Share as shares
 use Rattle.ends.specs.Ends.{nextStart, orDuration, lastLoud, soundEnd}
 use Rattle.even.specs.Even as even
@@ -63,11 +63,11 @@ abbrev call : Words → Spans → List Float → ℕ → ℕ → Output
 call ws sp ls samples places = fitFileCall ws numbers sp ls (floor ls) samples places
 
 first-computed : call (pair second zero-s quarter) (two-spans half-s) (half ∷ (plusZero ∷ [])) 320 2 ≡ output Accepted (pair fitted zero-s fitted)
-unfolding fitFileCall phrasesRule chain inOrder ofWords withLevels withList withSpans withPlaces uneven unevenSpans manySpans first any timeOf loudRow fitFile fitPhrase durationOf membersOf memberTurn picked pickedEdges putEdges putBack fitGroup keepInside insideTurn insideSpan takeTrailing takeRun lastRun frameRun framesOf endsBetween runBack fitToSound putInOrder orderTurn stepStart endInOrder moveToRise riseTurnOf riseOf clip even.evenOut even.evenTurn even.crushed even.swollen even.firstCrushed even.withSwollen even.lastCrushed even.grown even.ceilingOf even.borrows even.borrowed even.endOf even.stretchOf even.evenRun even.sum shares.share shares.sum partEdges onPart settleEnds endTurn endOf endedBy cutBack lastsTo soundEndIn nextStart orDuration soundEnd lastLoud each run up down frameFromZero frameAt floorI64 frameSeconds jsMin jsMax under isNan fold peak floor add sub neg sum mul div lt le eq ofInt round size span climb units odd ofBits ofFields trailingZeros
+unfolding fitFileCall phrasesRule chain inOrder ofWords also when ofLevels ofSamples ofList ofSpans ofPlaces uneven unevenSpans manySpans first any timeOf loudRow fitFile fitPhrase durationOf membersOf memberTurn picked pickedEdges putEdges putBack fitGroup keepInside insideTurn insideSpan takeTrailing takeRun lastRun frameRun framesOf endsBetween runBack fitToSound putInOrder orderTurn stepStart endInOrder moveToRise riseTurnOf riseOf clip even.evenOut even.evenTurn even.crushed even.swollen even.firstCrushed even.withSwollen even.lastCrushed even.grown even.ceilingOf even.borrows even.borrowed even.endOf even.stretchOf even.evenRun even.sum shares.share shares.sum partEdges onPart settleEnds endTurn endOf endedBy cutBack lastsTo soundEndIn nextStart orDuration soundEnd lastLoud each run up down frameFromZero frameAt floorI64 frameSeconds jsMin jsMax under isNan fold peak floor add sub neg sum mul div lt le eq ofInt round size span climb units odd ofBits ofFields trailingZeros
 first-computed = refl
 
 second-computed : call (pair second eighth quarter) (two-spans quarter) (fin false 1 (pos 1) ∷ (plusZero ∷ [])) 320 9 ≡ output Accepted (pair fitted eighth quarter)
-unfolding fitFileCall phrasesRule chain inOrder ofWords withLevels withList withSpans withPlaces uneven unevenSpans manySpans first any timeOf loudRow fitFile fitPhrase durationOf membersOf memberTurn picked pickedEdges putEdges putBack fitGroup keepInside insideTurn insideSpan takeTrailing takeRun lastRun frameRun framesOf endsBetween runBack fitToSound putInOrder orderTurn stepStart endInOrder moveToRise riseTurnOf riseOf clip even.evenOut even.evenTurn even.crushed even.swollen even.firstCrushed even.withSwollen even.lastCrushed even.grown even.ceilingOf even.borrows even.borrowed even.endOf even.stretchOf even.evenRun even.sum shares.share shares.sum partEdges onPart settleEnds endTurn endOf endedBy cutBack lastsTo soundEndIn nextStart orDuration soundEnd lastLoud each run up down frameFromZero frameAt floorI64 frameSeconds jsMin jsMax under isNan fold peak floor add sub neg sum mul div lt le eq ofInt round size span climb units odd ofBits ofFields trailingZeros
+unfolding fitFileCall phrasesRule chain inOrder ofWords also when ofLevels ofSamples ofList ofSpans ofPlaces uneven unevenSpans manySpans first any timeOf loudRow fitFile fitPhrase durationOf membersOf memberTurn picked pickedEdges putEdges putBack fitGroup keepInside insideTurn insideSpan takeTrailing takeRun lastRun frameRun framesOf endsBetween runBack fitToSound putInOrder orderTurn stepStart endInOrder moveToRise riseTurnOf riseOf clip even.evenOut even.evenTurn even.crushed even.swollen even.firstCrushed even.withSwollen even.lastCrushed even.grown even.ceilingOf even.borrows even.borrowed even.endOf even.stretchOf even.evenRun even.sum shares.share shares.sum partEdges onPart settleEnds endTurn endOf endedBy cutBack lastsTo soundEndIn nextStart orDuration soundEnd lastLoud each run up down frameFromZero frameAt floorI64 frameSeconds jsMin jsMax under isNan fold peak floor add sub neg sum mul div lt le eq ofInt round size span climb units odd ofBits ofFields trailingZeros
 second-computed = refl
 
 first-fit : call (pair second zero-s quarter) (two-spans half-s) (levels recording) (length recording) 2 ≡ output Accepted (pair fitted zero-s fitted)

@@ -15,8 +15,8 @@ use Rattle.js.specs.Js.{under, jsMin, jsMax}
 use Rattle.frames.specs.Frames.{floorI64, ceilI64, frameAt, frameCeil, frameFromZero, frameSeconds}
 use Rattle.envelope.specs.Envelope.{levels, peak, floor, loudRow, quietRow}
 use Rattle.limits.specs.Limits.{any, timeOf}
-use Rattle.limits.specs.Order.{inOrder, chain}
-use Rattle.word_calls.specs.Calls.{uneven, ofWords, unevenSpans, manySpans, withSpans, withPlaces}
+use Rattle.limits.specs.Order.{when, also, inOrder, chain}
+use Rattle.word_calls.specs.Calls.{uneven, ofWords, ofSamples, unevenSpans, manySpans, ofSpans, ofPlaces}
 use Rattle.pieces.specs.Pieces.{pieceTurn, walked, pieces, need, over}
 use Rattle.loops.specs.Loops.{equal, same, copiesEnd, isLoop, loopTurn, pass, collapseLoops}
 use Rattle.tails.specs.Tails.{tailTurn, handBackTails}
@@ -32,7 +32,7 @@ use Rattle.last_run.specs.LastRun.{endsBetween, framesOf, frameRun, lastRun}
 use Rattle.fit_to_sound.specs.FitToSound as starts
 use Rattle.fit_to_sound.specs.FitToSound.{fitToSound}
 use Rattle.run_stages.specs.Stages.{snapped, byPhrase, settled, Run, runOn}
-use Rattle.full_run.specs.FullRun.{Input, runOf, withSamples, runApplies, Output, output, reportOf, fullRun}
+use Rattle.full_run.specs.FullRun.{Input, runOf, runApplies, Output, output, reportOf, fullRun}
 use Rattle.full_run.specs.declared.Report.{Report}
 use Rattle.full_run.specs.declared.Answer.the-variants.{Accepted}
 use Rattle.invariance.specs.SameRun.{SameRun}
@@ -107,11 +107,11 @@ unfolding runOn snapped settled byPhrase durationOf wordsInPlaces loudRow quietR
 second-computed = refl
 
 by-levels-1 : fullRun first-given ≡ left (levels recording) (length recording) (nan ∷ nan ∷ []) (7 ∷ []) (7 ∷ [])
-unfolding fullRun chain inOrder runApplies ofWords withSamples withSpans withPlaces uneven unevenSpans manySpans first any timeOf need lt le eq ofBits runOf recording
+unfolding fullRun chain inOrder runApplies ofWords also when ofSamples ofSpans ofPlaces uneven unevenSpans manySpans first any timeOf need lt le eq ofBits runOf recording
 by-levels-1 = refl
 
 by-levels-2 : fullRun second-given ≡ left (levels multiplied) (length multiplied) (half-s ∷ half-s ∷ half-s ∷ []) (5 ∷ 6 ∷ []) (5 ∷ 6 ∷ [])
-unfolding fullRun chain inOrder runApplies ofWords withSamples withSpans withPlaces uneven unevenSpans manySpans first any timeOf need lt le eq ofBits runOf multiplied
+unfolding fullRun chain inOrder runApplies ofWords also when ofSamples ofSpans ofPlaces uneven unevenSpans manySpans first any timeOf need lt le eq ofBits runOf multiplied
 by-levels-2 = refl
 
 first-run : fullRun first-given ≡ output (Accepted first-report) one-word (0 ∷ 8 ∷ 9 ∷ []) (half ∷ plusZero ∷ []) (0 ∷ []) (320 ∷ [])

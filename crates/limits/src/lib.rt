@@ -1,7 +1,7 @@
 // The tests of lists behind the refusals of document 01, and the order of all tests.
 ghost use mathlib.Core.Path.{_≡_};
 ghost use Rattle.limits.specs.Limits.{badTime, any, badWordTimes, badSpanTimes, badLetters, badCounts, outside};
-ghost use Rattle.limits.specs.Order.{chain as chainOf};
+ghost use Rattle.limits.specs.Order.{when as whenOf, also as alsoOf, chain as chainOf};
 use base::Refusal;
 use base::Rule;
 
@@ -23,6 +23,37 @@ pub struct Applies {
 pub enum Answer {
     Accepted,
     Refused(Refusal),
+}
+
+// What applies where one test is made: its refusal, by its number, if the test says so; and no other.
+pub fn when(applies: bool, why: Refusal) -> Applies
+    ensures { λ r. ⌜ r ≡ whenOf applies why ⌝ }
+{
+    let n = base::number(why);
+    Applies {
+        lengths: (n == 3) & applies,
+        counts: (n == 4) & applies,
+        times: (n == 1) & applies,
+        letters: (n == 2) & applies,
+        levels: (n == 7) & applies,
+        places: (n == 6) & applies,
+        cut: (n == 8) & applies,
+    }
+}
+
+// What applies of one or of the other.
+pub fn also(a: Applies, b: Applies) -> Applies
+    ensures { λ r. ⌜ r ≡ alsoOf a b ⌝ }
+{
+    Applies {
+        lengths: a.lengths | b.lengths,
+        counts: a.counts | b.counts,
+        times: a.times | b.times,
+        letters: a.letters | b.letters,
+        levels: a.levels | b.levels,
+        places: a.places | b.places,
+        cut: a.cut | b.cut,
+    }
 }
 
 // The first refusal that applies.

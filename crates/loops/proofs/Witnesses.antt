@@ -14,7 +14,7 @@ use Rattle.base.specs.Words.{Words, words, wordsInPlaces}
 use Rattle.base.specs.declared.Refusal.the-variants.{Lengths, Counts, Time, Letters}
 use Rattle.base.proofs.First.{first-skip, first-here, breaks-first}
 use Rattle.limits.specs.Limits.{timeOf, any}
-use Rattle.limits.specs.Order.{inOrder, chain}
+use Rattle.limits.specs.Order.{when, also, inOrder, chain}
 use Rattle.word_calls.specs.Calls.{uneven, ofWords}
 use Rattle.loops.specs.declared.Answer.the-variants.{Accepted, Refused}
 use Rattle.loops.specs.Loops.{equal, same, copiesEnd, isLoop, loopTurn, pass, collapseLoops, output, collapseCall}
@@ -28,19 +28,19 @@ sec n = fin false n (pos 0)
 -- ---- Keys 1 1 1 2 give 1 2: the first and the last word, and two places of zero.
 witness-accepted : collapseCall (words (sec 0 ∷ sec 1 ∷ sec 2 ∷ sec 3 ∷ []) (sec 1 ∷ sec 2 ∷ sec 3 ∷ sec 4 ∷ []) (5 ∷ 6 ∷ 7 ∷ 8 ∷ []) (15 ∷ 16 ∷ 17 ∷ 18 ∷ []) (1 ∷ 1 ∷ 1 ∷ 2 ∷ []))
     ≡ output (Accepted 2 true) (words (sec 0 ∷ sec 3 ∷ sec 0 ∷ sec 0 ∷ []) (sec 1 ∷ sec 4 ∷ sec 0 ∷ sec 0 ∷ []) (5 ∷ 8 ∷ 0 ∷ 0 ∷ []) (15 ∷ 18 ∷ 0 ∷ 0 ∷ []) (1 ∷ 2 ∷ 0 ∷ 0 ∷ []))
-unfolding collapseCall chain inOrder first ofWords uneven any timeOf le lt eq ofBits collapseLoops pass loopTurn isLoop same equal copiesEnd run each wordsInPlaces
+unfolding collapseCall chain inOrder first ofWords also when uneven any timeOf le lt eq ofBits collapseLoops pass loopTurn isLoop same equal copiesEnd run each wordsInPlaces
 witness-accepted = refl
 
 witness-lengths : collapseCall (words [] [] [] [] (1 ∷ [])) ≡ output (Refused Lengths) (words [] [] [] [] (1 ∷ []))
-unfolding collapseCall chain inOrder first ofWords uneven
+unfolding collapseCall chain inOrder first ofWords also when uneven
 witness-lengths = refl
 
 witness-time : collapseCall (words (nan ∷ []) (sec 1 ∷ []) (0 ∷ []) (1 ∷ []) (1 ∷ [])) ≡ output (Refused Time) (words (nan ∷ []) (sec 1 ∷ []) (0 ∷ []) (1 ∷ []) (1 ∷ []))
-unfolding collapseCall chain inOrder first ofWords uneven any timeOf
+unfolding collapseCall chain inOrder first ofWords also when uneven any timeOf
 witness-time = refl
 
 witness-letters : collapseCall (words (sec 0 ∷ []) (sec 1 ∷ []) (0 ∷ []) (1 ∷ []) (1 ∷ [])) ≡ output (Refused Letters) (words (sec 0 ∷ []) (sec 1 ∷ []) (0 ∷ []) (1 ∷ []) (1 ∷ []))
-unfolding collapseCall chain inOrder first ofWords uneven any timeOf le lt eq ofBits
+unfolding collapseCall chain inOrder first ofWords also when uneven any timeOf le lt eq ofBits
 witness-letters = refl
 
 -- ---- So many words, all alike; any number above the limit is refused.
@@ -48,13 +48,13 @@ alike : ℕ → Words
 alike n = words (replicate n (sec 0)) (replicate n (sec 1)) (replicate n 1) (replicate n 1) (replicate n 1)
 
 too-many : (n : ℕ) → 4096 < n → collapseCall (alike n) .answer ≡ Refused Counts
-unfolding alike inOrder ofWords uneven
+unfolding alike inOrder ofWords also when uneven
 too-many n h =
     let ones : length (replicate {A = ℕ} n 1) ≡ n = length-replicate n 1 in
     let even : uneven (length (alike n .starts)) (length (alike n .ends)) (length (alike n .letters)) (length (alike n .units)) (length (alike n .keys)) ≡ false =
     rw (length-replicate n (sec 0), length-replicate n (sec 1), ones, eq-eqb n n refl) in
     let long : ltb 4096 (length (alike n .starts)) ≡ true = rw (length-replicate n (sec 0)) (lt-ltb 4096 n h) in
-    refused-exactly (alike n) Counts .0 (breaks-first Counts (inOrder (ofWords (alike n))) (first-skip _ _ even ∙ first-here _ _ long))
+    refused-exactly (alike n) Counts .0 (breaks-first Counts (inOrder (ofWords (alike n))) (first-skip _ _ (rw even) ∙ first-here _ _ (rw long)))
 
 witness-counts : (ws : Words) × (collapseCall ws .answer ≡ Refused Counts)
 witness-counts = (alike 4097, too-many 4097 (lit< tt))

@@ -15,8 +15,8 @@ use Rattle.js.specs.Js.{under, jsMin}
 use Rattle.frames.specs.Frames.{floorI64, ceilI64, frameAt, frameCeil, frameSeconds}
 use Rattle.envelope.specs.Envelope.{loudRow}
 use Rattle.limits.specs.Limits.{timeOf, any}
-use Rattle.limits.specs.Order.{inOrder, chain}
-use Rattle.word_calls.specs.Calls.{uneven, ofWords, withLevels, soundRule, output}
+use Rattle.limits.specs.Order.{when, also, inOrder, chain}
+use Rattle.word_calls.specs.Calls.{uneven, ofWords, ofSamples, ofLevels, soundRule, output}
 use Rattle.limits.specs.declared.Answer.the-variants.{Accepted, Refused}
 use Rattle.onsets.specs.Onsets.{onsetFrame, onsetOf, prevEnd, onsetTurn, snapOnsets, onsetsCall}
 
@@ -40,7 +40,7 @@ word letters start end = words (start ∷ []) (end ∷ []) (letters ∷ []) (9 �
 
 -- the word starts at 0.25 s, in a sound that rises at 0.11 s, across 7 quiet frames
 walks-back : onsetsCall (word 4 (time 25) (time 30)) heard one 4800 ≡ output Accepted (word 4 (time 11) (time 30))
-unfolding onsetsCall soundRule chain inOrder ofWords withLevels uneven first any timeOf loudRow snapOnsets onsetTurn onsetOf onsetFrame prevEnd each runBack frameAt frameCeil floorI64 ceilI64 frameSeconds jsMin under isNan add sub neg sum mul div lt le eq ofInt round size span climb units odd ofBits ofFields trailingZeros
+unfolding onsetsCall soundRule chain inOrder ofWords also when ofLevels ofSamples uneven first any timeOf loudRow snapOnsets onsetTurn onsetOf onsetFrame prevEnd each runBack frameAt frameCeil floorI64 ceilI64 frameSeconds jsMin under isNan add sub neg sum mul div lt le eq ofInt round size span climb units odd ofBits ofFields trailingZeros
 walks-back = refl
 
 -- three words: the second starts 0.15 s after the first ends, so it walks back, and no further than there; the third starts sooner after the
@@ -49,25 +49,25 @@ abbrev three : Float → Words
 three second = words (time 0 ∷ second ∷ time 28 ∷ []) (time 10 ∷ time 27 ∷ time 30 ∷ []) (4 ∷ 4 ∷ 4 ∷ []) (9 ∷ 9 ∷ 9 ∷ []) (1 ∷ 2 ∷ 3 ∷ [])
 
 after-a-pause : onsetsCall (three (time 25)) (replicate 30 two) one 4800 ≡ output Accepted (three (time 10))
-unfolding onsetsCall soundRule chain inOrder ofWords withLevels uneven first any timeOf loudRow snapOnsets onsetTurn onsetOf onsetFrame prevEnd each runBack frameAt frameCeil floorI64 ceilI64 frameSeconds jsMin under isNan add sub neg sum mul div lt le eq ofInt round size span climb units odd ofBits ofFields trailingZeros
+unfolding onsetsCall soundRule chain inOrder ofWords also when ofLevels ofSamples uneven first any timeOf loudRow snapOnsets onsetTurn onsetOf onsetFrame prevEnd each runBack frameAt frameCeil floorI64 ceilI64 frameSeconds jsMin under isNan add sub neg sum mul div lt le eq ofInt round size span climb units odd ofBits ofFields trailingZeros
 after-a-pause = refl
 
 refuses-3 : let ws = words (time 0 ∷ []) [] [] [] [] in onsetsCall ws heard one 4800 ≡ output (Refused Lengths) ws
-unfolding onsetsCall soundRule chain inOrder ofWords withLevels uneven first
+unfolding onsetsCall soundRule chain inOrder ofWords also when ofLevels ofSamples uneven first
 refuses-3 = refl
 
 refuses-4 : onsetsCall (word 4 (time 25) (time 30)) heard one 57600001 ≡ output (Refused Counts) (word 4 (time 25) (time 30))
-unfolding onsetsCall soundRule chain inOrder ofWords withLevels uneven first
+unfolding onsetsCall soundRule chain inOrder ofWords also when ofLevels ofSamples uneven first
 refuses-4 = refl
 
 refuses-1 : onsetsCall (word 4 nan (time 30)) heard one 4800 ≡ output (Refused Time) (word 4 nan (time 30))
-unfolding onsetsCall soundRule chain inOrder ofWords withLevels uneven first any timeOf lt le eq round size span climb units odd ofBits ofFields trailingZeros
+unfolding onsetsCall soundRule chain inOrder ofWords also when ofLevels ofSamples uneven first any timeOf lt le eq round size span climb units odd ofBits ofFields trailingZeros
 refuses-1 = refl
 
 refuses-2 : onsetsCall (word 1001 (time 25) (time 30)) heard one 4800 ≡ output (Refused Letters) (word 1001 (time 25) (time 30))
-unfolding onsetsCall soundRule chain inOrder ofWords withLevels uneven first any timeOf lt le eq round size span climb units odd ofBits ofFields trailingZeros
+unfolding onsetsCall soundRule chain inOrder ofWords also when ofLevels ofSamples uneven first any timeOf lt le eq round size span climb units odd ofBits ofFields trailingZeros
 refuses-2 = refl
 
 refuses-7 : onsetsCall (word 4 (time 25) (time 30)) heard one 4960 ≡ output (Refused Levels) (word 4 (time 25) (time 30))
-unfolding onsetsCall soundRule chain inOrder ofWords withLevels uneven first any timeOf lt le eq round size span climb units odd ofBits ofFields trailingZeros
+unfolding onsetsCall soundRule chain inOrder ofWords also when ofLevels ofSamples uneven first any timeOf lt le eq round size span climb units odd ofBits ofFields trailingZeros
 refuses-7 = refl

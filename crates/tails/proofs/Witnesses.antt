@@ -15,8 +15,8 @@ use Rattle.js.specs.Js.{under, jsMax}
 use Rattle.frames.specs.Frames.{floorI64, frameAt, frameSeconds}
 use Rattle.envelope.specs.Envelope.{loudRow}
 use Rattle.limits.specs.Limits.{timeOf, any}
-use Rattle.limits.specs.Order.{inOrder, chain}
-use Rattle.word_calls.specs.Calls.{uneven, ofWords, withLevels, soundRule, output}
+use Rattle.limits.specs.Order.{when, also, inOrder, chain}
+use Rattle.word_calls.specs.Calls.{uneven, ofWords, ofSamples, ofLevels, soundRule, output}
 use Rattle.limits.specs.declared.Answer.the-variants.{Accepted, Refused}
 use Rattle.tails.specs.Tails.{pastLoud, pastQuiet, tailOf, handBack, tailTurn, handBackTails, tailsCall}
 
@@ -40,25 +40,25 @@ pair letters end start = words (time 0 ∷ start ∷ []) (end ∷ time 30 ∷ []
 
 -- the second word starts at 0.1 s, in a sound that ends at 0.12 s; its own begins at 0.2 s
 hands-back : tailsCall (pair 4 (time 10) (time 10)) heard one 4800 ≡ output Accepted (pair 4 (time 12) (time 20))
-unfolding tailsCall soundRule chain inOrder ofWords withLevels uneven first any timeOf loudRow handBackTails tailTurn tailOf handBack pastLoud pastQuiet each run frameAt floorI64 frameSeconds jsMax under isNan add sub neg sum mul div lt le eq ofInt round size span climb units odd ofBits ofFields trailingZeros
+unfolding tailsCall soundRule chain inOrder ofWords also when ofLevels ofSamples uneven first any timeOf loudRow handBackTails tailTurn tailOf handBack pastLoud pastQuiet each run frameAt floorI64 frameSeconds jsMax under isNan add sub neg sum mul div lt le eq ofInt round size span climb units odd ofBits ofFields trailingZeros
 hands-back = refl
 
 refuses-3 : let ws = words (time 0 ∷ []) [] [] [] [] in tailsCall ws heard one 4800 ≡ output (Refused Lengths) ws
-unfolding tailsCall soundRule chain inOrder ofWords withLevels uneven first
+unfolding tailsCall soundRule chain inOrder ofWords also when ofLevels ofSamples uneven first
 refuses-3 = refl
 
 refuses-4 : tailsCall (pair 4 (time 10) (time 10)) heard one 57600001 ≡ output (Refused Counts) (pair 4 (time 10) (time 10))
-unfolding tailsCall soundRule chain inOrder ofWords withLevels uneven first
+unfolding tailsCall soundRule chain inOrder ofWords also when ofLevels ofSamples uneven first
 refuses-4 = refl
 
 refuses-1 : tailsCall (pair 4 nan (time 10)) heard one 4800 ≡ output (Refused Time) (pair 4 nan (time 10))
-unfolding tailsCall soundRule chain inOrder ofWords withLevels uneven first any timeOf lt le eq round size span climb units odd ofBits ofFields trailingZeros
+unfolding tailsCall soundRule chain inOrder ofWords also when ofLevels ofSamples uneven first any timeOf lt le eq round size span climb units odd ofBits ofFields trailingZeros
 refuses-1 = refl
 
 refuses-2 : tailsCall (pair 1001 (time 10) (time 10)) heard one 4800 ≡ output (Refused Letters) (pair 1001 (time 10) (time 10))
-unfolding tailsCall soundRule chain inOrder ofWords withLevels uneven first any timeOf lt le eq round size span climb units odd ofBits ofFields trailingZeros
+unfolding tailsCall soundRule chain inOrder ofWords also when ofLevels ofSamples uneven first any timeOf lt le eq round size span climb units odd ofBits ofFields trailingZeros
 refuses-2 = refl
 
 refuses-7 : tailsCall (pair 4 (time 10) (time 10)) heard one 4960 ≡ output (Refused Levels) (pair 4 (time 10) (time 10))
-unfolding tailsCall soundRule chain inOrder ofWords withLevels uneven first any timeOf lt le eq round size span climb units odd ofBits ofFields trailingZeros
+unfolding tailsCall soundRule chain inOrder ofWords also when ofLevels ofSamples uneven first any timeOf lt le eq round size span climb units odd ofBits ofFields trailingZeros
 refuses-7 = refl

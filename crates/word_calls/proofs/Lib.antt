@@ -1,4 +1,4 @@
 -- Laws of the calls on words.
-pub mod Filled
+pub mod Uneven
 pub mod Within
 pub mod Moved

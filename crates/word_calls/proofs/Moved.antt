@@ -13,10 +13,11 @@ use Rattle.base.specs.declared.Refusal.{Refusal}
 use Rattle.base.specs.declared.Rule.{Rule}
 use Rattle.base.specs.declared.Rule.the-variants.{Fine, Breaks}
 use Rattle.base.proofs.First.{None, First, fine-none, none-fine, breaks-first, first-breaks}
-use Rattle.limits.specs.Order.{inOrder, chain}
-use Rattle.word_calls.specs.Calls.{ofWords, withLevels, withTime, withLimit, withSpans, withPlaces, withList, soundRule, timedRule, limitRule, spansRule, phrasesRule, output, moved}
+use Rattle.limits.specs.Order.{also, inOrder, chain}
+use Rattle.word_calls.specs.Calls.{ofWords, ofLevels, ofTime, ofLimit, ofSpans, ofPlaces, ofList, soundRule, timedRule, limitRule, spansRule, phrasesRule, output, moved}
 use Rattle.limits.specs.declared.Applies.{Applies}
 use Rattle.limits.specs.declared.Answer.the-variants.{Accepted, Refused}
+use Rattle.limits.proofs.Joined.{also-exactly}
 use Rattle.word_calls.proofs.Within.{Within, LimitWithin, WordsWithin, SpansWithin, words-exactly, levels-exactly, time-exactly, limit-exactly, spans-exactly, places-exactly, list-exactly}
 
 -- ---- the three fields of a word that no such call changes
@@ -62,10 +63,10 @@ module _ (es : Edges) (ws : Words) where
 
 -- ---- the tests of a stage on sound, in their order
 abbrev pub soundApplies : Words → ℕ → ℕ → Applies
-soundApplies ws levels samples = withLevels levels samples (ofWords ws)
+soundApplies ws levels samples = also (ofWords ws) (ofLevels levels samples)
 
 abbrev pub timedApplies : Words → ℕ → ℕ → Float → Applies
-timedApplies ws levels samples duration = withTime duration (soundApplies ws levels samples)
+timedApplies ws levels samples duration = also (soundApplies ws levels samples) (ofTime duration)
 
 -- ---- "within the limits" for such a stage
 abbrev pub SoundWithin : Words → ℕ → ℕ → Type 0
@@ -73,10 +74,10 @@ SoundWithin ws levels samples = WordsWithin ws × ((samples ≤ 57600000) × (le
 
 module _ (ws : Words) (levels samples : ℕ) where
   within-sound : SoundWithin ws levels samples ↔ None (inOrder (soundApplies ws levels samples))
-  within-sound =
-      let w = words-exactly ws in
-      let l = levels-exactly (ofWords ws) levels samples in
-      ((λ h. l .0 (w .0 (h .0), h .1)), (λ n. let m = l .1 n in (w .1 (m .0), m .1)))
+  within-sound = also-exactly _ _ (words-exactly ws) (levels-exactly levels samples)
+
+  within-timed : (duration : Float) → (SoundWithin ws levels samples × Within duration) ↔ None (inOrder (timedApplies ws levels samples duration))
+  within-timed duration = also-exactly _ _ within-sound (time-exactly duration)
 
   module _ (es : Edges) where
     pub sound-accepted : SoundWithin ws levels samples ↔ (moved (soundRule ws levels samples) es ws .answer ≡ Accepted)
@@ -93,9 +94,8 @@ module _ (ws : Words) (levels samples : ℕ) where
       pub timed-accepted : (SoundWithin ws levels samples × Within duration) ↔ (moved (timedRule ws levels samples duration) es ws .answer ≡ Accepted)
       unfolding timedRule
       timed-accepted =
-          let t = time-exactly (soundApplies ws levels samples) duration in
           let e = accepted-exactly es ws (timedApplies ws levels samples duration) in
-          ((λ h. e .0 (t .0 (within-sound .0 (h .0), h .1))), (λ h. let n = t .1 (e .1 h) in (within-sound .1 (n .0), n .1)))
+          ((λ h. e .0 (within-timed duration .0 h)), (λ h. within-timed duration .1 (e .1 h)))
 
       pub timed-refused : (q : Refusal) → First q (inOrder (timedApplies ws levels samples duration)) ↔ (moved (timedRule ws levels samples duration) es ws .answer ≡ Refused q)
       unfolding timedRule
@@ -108,19 +108,15 @@ module _ (ws : Words) (levels samples : ℕ) where
 
   pub timed-fine : (duration : Float) → timedRule ws levels samples duration ≡ Fine → SoundWithin ws levels samples
   unfolding timedRule chain
-  timed-fine duration h =
-      within-sound .1 (time-exactly (soundApplies ws levels samples) duration .1 (fine-none (inOrder (timedApplies ws levels samples duration)) h) .0)
+  timed-fine duration h = within-timed duration .1 (fine-none (inOrder (timedApplies ws levels samples duration)) h) .0
 
 -- ---- words and a limit for evening
 abbrev pub limitApplies : Words → Float → Applies
-limitApplies ws limit = withLimit limit (ofWords ws)
+limitApplies ws limit = also (ofWords ws) (ofLimit limit)
 
 module _ (ws : Words) (limit : Float) where
   within-limit : (WordsWithin ws × LimitWithin limit) ↔ None (inOrder (limitApplies ws limit))
-  within-limit =
-      let w = words-exactly ws in
-      let l = limit-exactly (ofWords ws) limit in
-      ((λ h. l .0 (w .0 (h .0), h .1)), (λ n. let m = l .1 n in (w .1 (m .0), m .1)))
+  within-limit = also-exactly _ _ (words-exactly ws) (limit-exactly limit)
 
   module _ (es : Edges) where
     pub limit-accepted : (WordsWithin ws × LimitWithin limit) ↔ (moved (limitRule ws limit) es ws .answer ≡ Accepted)
@@ -139,15 +135,11 @@ module _ (ws : Words) (limit : Float) where
 
 -- ---- words, spans, and so many places where so many are needed
 abbrev pub spansApplies : Words → Spans → ℕ → ℕ → Applies
-spansApplies ws sp places need = withPlaces places need (withSpans sp (ofWords ws))
+spansApplies ws sp places need = also (ofWords ws) (also (ofSpans sp) (ofPlaces places need))
 
 module _ (ws : Words) (sp : Spans) (places need : ℕ) where
   pub within-spans : (WordsWithin ws × (SpansWithin sp × (need ≤ places))) ↔ None (inOrder (spansApplies ws sp places need))
-  within-spans =
-      let w = words-exactly ws in
-      let s = spans-exactly (ofWords ws) sp in
-      let p = places-exactly (withSpans sp (ofWords ws)) places need in
-      ((λ h. p .0 (s .0 (w .0 (h .0), h .1 .0), h .1 .1)), (λ n. let m = p .1 n in let k = s .1 (m .0) in (w .1 (k .0), (k .1, m .1))))
+  within-spans = also-exactly _ _ (words-exactly ws) (also-exactly _ _ (spans-exactly sp) (places-exactly places need))
 
   pub spans-fine : spansRule ws sp places need ≡ Fine → WordsWithin ws × (SpansWithin sp × (need ≤ places))
   unfolding spansRule chain
@@ -156,7 +148,7 @@ module _ (ws : Words) (sp : Spans) (places need : ℕ) where
 -- ---- words with so many phrase numbers, spans, levels and samples, and so many places where so many are needed
 abbrev pub phrasesApplies : Words → ℕ → Spans → ℕ → ℕ → ℕ → ℕ → Applies
 phrasesApplies ws phrases sp levels samples places need =
-    withPlaces places need (withSpans sp (withLevels levels samples (withList phrases (length (ws .starts)) (ofWords ws))))
+    also (soundApplies ws levels samples) (also (ofList phrases (length (ws .starts))) (also (ofSpans sp) (ofPlaces places need)))
 
 -- ---- "within the limits" for them: a phrase number for each word, and places that suffice
 abbrev pub PhrasesWithin : Words → ℕ → Spans → ℕ → ℕ → ℕ → ℕ → Type 0
@@ -166,15 +158,8 @@ PhrasesWithin ws phrases sp levels samples places need =
 module _ (ws : Words) (phrases : ℕ) (sp : Spans) (levels samples places need : ℕ) where
   pub within-phrases : PhrasesWithin ws phrases sp levels samples places need ↔ None (inOrder (phrasesApplies ws phrases sp levels samples places need))
   within-phrases =
-      let w = words-exactly ws in
-      let b = withList phrases (length (ws .starts)) (ofWords ws) in
-      let n = list-exactly (ofWords ws) phrases (length (ws .starts)) in
-      let l = levels-exactly b levels samples in
-      let s = spans-exactly (withLevels levels samples b) sp in
-      let p = places-exactly (withSpans sp (withLevels levels samples b)) places need in (
-        (λ h. p .0 (s .0 (l .0 (n .0 (w .0 (h .0 .0), h .1 .0), h .0 .1), h .1 .1 .0), h .1 .1 .1)),
-        (λ h. let i = p .1 h in let j = s .1 (i .0) in let k = l .1 (j .0) in let m = n .1 (k .0) in ((w .1 (m .0), k .1), (m .1, (j .1, i .1)))),
-      )
+      also-exactly _ _ (within-sound ws levels samples)
+      (also-exactly _ _ (list-exactly phrases (length (ws .starts))) (also-exactly _ _ (spans-exactly sp) (places-exactly places need)))
 
   pub phrases-fine : phrasesRule ws phrases sp levels samples places need ≡ Fine → PhrasesWithin ws phrases sp levels samples places need
   unfolding phrasesRule chain

@@ -11,11 +11,12 @@ use lib.ListN.{length, getD, List·getD-eq-default}
 use lib.Ieee.{Float, nan, inf, fin, le}
 use Rattle.base.specs.Words.{Words, Spans, count}
 use Rattle.base.specs.Parts.{OneLength}
+use Rattle.base.specs.declared.Refusal.the-variants.{Time, Letters, Lengths, Counts, Places, Levels}
 use Rattle.base.proofs.First.{None}
 use Rattle.limits.specs.Limits.{least, most, timeOf, limitOf, isFine, badTime, badLimit, any, outside}
 use Rattle.limits.specs.Order.{inOrder}
-use Rattle.word_calls.specs.Calls.{uneven, ofWords, withLevels, withTime, withLimit, unevenSpans, manySpans, withSpans, withPlaces, withList}
-use Rattle.limits.specs.declared.Applies.{Applies}
+use Rattle.limits.proofs.Joined.{neither, both-not, when-exactly, also-exactly}
+use Rattle.word_calls.specs.Calls.{uneven, ofWords, ofSamples, ofLevels, ofTime, ofLimit, unevenSpans, manySpans, ofSpans, ofPlaces, ofList}
 use Rattle.limits.specs.declared.times.TimeTest.{TimeTest}
 use Rattle.limits.specs.declared.times.TimeTest.the-variants as time
 use Rattle.limits.proofs.Finite.{time-fine}
@@ -55,14 +56,6 @@ limit-within nan h = absurd (true≢false h)
 limit-within (inf true) h = absurd (true≢false h)
 limit-within (inf false) h = inr refl
 limit-within (fin s m e) h = inl (fine-within (fin s m e) h)
-
--- ---- two tests, of which none applies
-neither : (a b : Bool) → (a || b) ≡ false → (a ≡ false) × (b ≡ false)
-neither true b h = absurd (true≢false h)
-neither false b h = (refl, h)
-
-both-not : {a b : Bool} → a ≡ false → b ≡ false → (a || b) ≡ false
-both-not p q = rw (p, q)
 
 -- ---- of no element a test holds
 module _ {A : Type 0} (p : A → Bool) (d : A) where
@@ -129,142 +122,116 @@ alike {a} {b} h = eqb-true a b (not-false (eqb a b) h)
 differ-no : {a b : ℕ} → a ≡ b → not (eqb a b) ≡ false
 differ-no {a} {b} h = rw (eq-eqb a b h)
 
+-- ---- one test, and what it says of the limits
+differs-exactly : (a b : ℕ) → (a ≡ b) ↔ (not (eqb a b) ≡ false)
+differs-exactly a b = (differ-no, alike)
+
+most-exactly : (most n : ℕ) → (n ≤ most) ↔ (ltb most n ≡ false)
+most-exactly most n = (le-ltb most n, ltb-false most n)
+
+times-exactly : (starts ends : List Float) → (AllWithin starts × AllWithin ends) ↔ ((any badTime starts || any badTime ends) ≡ false)
+times-exactly starts ends = (
+  λ w. both-not (none-any badTime nan starts (λ i l. within-fine _ (w .0 i l))) (none-any badTime nan ends (λ i l. within-fine _ (w .1 i l))),
+  λ h. let t = neither _ _ h in ((λ i l. fine-within _ (any-none badTime nan starts (t .0) i l)), (λ i l. fine-within _ (any-none badTime nan ends (t .1) i l))),
+)
+
+numbers-exactly : (a b : ℕ) (ns : List ℕ) → AllFrom a b ns ↔ (any (outside a b) ns ≡ false)
+numbers-exactly a b ns = (
+  λ w. none-any (outside a b) 0 ns (λ i l. let h = w i l in both-not (le-ltb _ _ (h .0)) (le-ltb _ _ (h .1))),
+  λ h i l. inside a b _ (any-none (outside a b) 0 ns h i l),
+)
+
+either-exactly : {P Q : Type 0} {a b : Bool} → P ↔ (a ≡ false) → Q ↔ (b ≡ false) → (P × Q) ↔ ((a || b) ≡ false)
+either-exactly p q = (λ h. both-not (p .0 (h .0)) (q .0 (h .1)), λ h. let t = neither _ _ h in (p .1 (t .0), q .1 (t .1)))
+
+-- ---- a word list
+words-tests : (ws : Words) → (((length (ws .ends) ≡ length (ws .starts)) × ((length (ws .letters) ≡ length (ws .starts)) × ((length (ws .units) ≡ length (ws .starts)) × (length (ws .keys) ≡ length (ws .starts)))))
+    × ((length (ws .starts) ≤ 4096) × ((AllWithin (ws .starts) × AllWithin (ws .ends)) × (AllFrom 1 1000 (ws .letters) × AllFrom 1 10000 (ws .units))))) ↔ None (inOrder (ofWords ws))
+unfolding ofWords uneven
+words-tests ws =
+    let n = length (ws .starts) in
+    also-exactly _ _
+    (when-exactly Lengths (λ e. omega (arith, e)) (either-exactly (differs-exactly _ n) (either-exactly (differs-exactly _ n) (either-exactly (differs-exactly _ n) (differs-exactly _ n)))))
+    (also-exactly _ _ (when-exactly Counts (λ e. omega (arith, e)) (most-exactly 4096 n))
+    (also-exactly _ _ (when-exactly Time (λ e. omega (arith, e)) (times-exactly (ws .starts) (ws .ends)))
+    (when-exactly Letters (λ e. omega (arith, e)) (either-exactly (numbers-exactly 1 1000 (ws .letters)) (numbers-exactly 1 10000 (ws .units))))))
+
 pub words-exactly : (ws : Words) → WordsWithin ws ↔ None (inOrder (ofWords ws))
-unfolding inOrder ofWords uneven
 words-exactly ws = (to, from)
   where
     to : WordsWithin ws → None (inOrder (ofWords ws))
-    to w = (
-      both-not (differ-no (w .ends-as-long)) (both-not (differ-no (w .letters-as-long)) (both-not (differ-no (w .units-as-long)) (differ-no (w .keys-as-long)))),
-      (
-        le-ltb 4096 (length (ws .starts)) (w .few),
-        (
-          both-not (none-any badTime nan (ws .starts) (λ i l. within-fine _ (w .starts-within i l))) (none-any badTime nan (ws .ends) (λ i l. within-fine _ (w .ends-within i l))),
-          (
-            both-not
-                (none-any (outside 1 1000) 0 (ws .letters) (λ i l. let h = w .letters-from-1 i l in both-not (le-ltb _ _ (h .0)) (le-ltb _ _ (h .1))))
-                (none-any (outside 1 10000) 0 (ws .units) (λ i l. let h = w .units-from-1 i l in both-not (le-ltb _ _ (h .0)) (le-ltb _ _ (h .1)))),
-            (refl, (refl, (refl, tt))),
-          ),
-        ),
-      ),
+    to w = words-tests ws .0 (
+      (w .ends-as-long, (w .letters-as-long, (w .units-as-long, w .keys-as-long))),
+      (w .few, ((w .starts-within, w .ends-within), (w .letters-from-1, w .units-from-1))),
     )
 
     from : None (inOrder (ofWords ws)) → WordsWithin ws
     from n =
-        let a = neither _ _ (n .0) in
-        let b = neither _ _ (a .1) in
-        let d = neither _ _ (b .1) in
-        let t = neither _ _ (n .1 .1 .0) in
-        let l = neither _ _ (n .1 .1 .1 .0) in
+        let t = words-tests ws .1 n in
         record {
-          ends-as-long = alike (a .0);
-          letters-as-long = alike (b .0);
-          units-as-long = alike (d .0);
-          keys-as-long = alike (d .1);
-          few = ltb-false 4096 (length (ws .starts)) (n .1 .0);
-          starts-within = λ i h. fine-within _ (any-none badTime nan (ws .starts) (t .0) i h);
-          ends-within = λ i h. fine-within _ (any-none badTime nan (ws .ends) (t .1) i h);
-          letters-from-1 = λ i h. inside 1 1000 _ (any-none (outside 1 1000) 0 (ws .letters) (l .0) i h);
-          units-from-1 = λ i h. inside 1 10000 _ (any-none (outside 1 10000) 0 (ws .units) (l .1) i h);
+          ends-as-long = t .0 .0;
+          letters-as-long = t .0 .1 .0;
+          units-as-long = t .0 .1 .1 .0;
+          keys-as-long = t .0 .1 .1 .1;
+          few = t .1 .0;
+          starts-within = t .1 .1 .0 .0;
+          ends-within = t .1 .1 .0 .1;
+          letters-from-1 = t .1 .1 .1 .0;
+          units-from-1 = t .1 .1 .1 .1;
         }
 
-module _ (a : Applies) where
-  -- ---- with the levels of a recording: at most an hour of samples, and a level for each frame
-  pub levels-exactly : (levels samples : ℕ) → (None (inOrder a) × ((samples ≤ 57600000) × (levels ≡ samples / 160))) ↔ None (inOrder (withLevels levels samples a))
-  unfolding inOrder withLevels
-  levels-exactly levels samples = (to, from)
-    where
-      to : None (inOrder a) × ((samples ≤ 57600000) × (levels ≡ samples / 160)) → None (inOrder (withLevels levels samples a))
-      to (n, (m, l)) = (n .0, (both-not (n .1 .0) (le-ltb 57600000 samples m), (n .1 .1 .0, (n .1 .1 .1 .0, (both-not (n .1 .1 .1 .1 .0) (differ-no l), n .1 .1 .1 .1 .1)))))
+-- ---- at most an hour of samples, and a level for each frame
+pub samples-exactly : (samples : ℕ) → (samples ≤ 57600000) ↔ None (inOrder (ofSamples samples))
+unfolding ofSamples
+samples-exactly samples = when-exactly Counts (λ e. omega (arith, e)) (most-exactly 57600000 samples)
 
-      from : None (inOrder (withLevels levels samples a)) → None (inOrder a) × ((samples ≤ 57600000) × (levels ≡ samples / 160))
-      from n =
-          let m = neither _ _ (n .1 .0) in
-          let l = neither _ _ (n .1 .1 .1 .1 .0) in
-          ((n .0, (m .0, (n .1 .1 .0, (n .1 .1 .1 .0, (l .0, n .1 .1 .1 .1 .1))))), (ltb-false 57600000 samples (m .1), alike (l .1)))
+pub levels-exactly : (levels samples : ℕ) → ((samples ≤ 57600000) × (levels ≡ samples / 160)) ↔ None (inOrder (ofLevels levels samples))
+unfolding ofLevels
+levels-exactly levels samples = also-exactly _ _ (samples-exactly samples) (when-exactly Levels (λ e. omega (arith, e)) (differs-exactly levels (samples / 160)))
 
-  -- ---- with one time more
-  pub time-exactly : (t : Float) → (None (inOrder a) × Within t) ↔ None (inOrder (withTime t a))
-  unfolding inOrder withTime
-  time-exactly t = (to, from)
-    where
-      to : None (inOrder a) × Within t → None (inOrder (withTime t a))
-      to (n, w) = (n .0, (n .1 .0, (both-not (n .1 .1 .0) (within-fine t w), n .1 .1 .1)))
+-- ---- a time that is no word's, and a limit for evening
+pub time-exactly : (t : Float) → Within t ↔ None (inOrder (ofTime t))
+unfolding ofTime
+time-exactly t = when-exactly Time (λ e. omega (arith, e)) (within-fine t, fine-within t)
 
-      from : None (inOrder (withTime t a)) → None (inOrder a) × Within t
-      from n = let h = neither _ _ (n .1 .1 .0) in ((n .0, (n .1 .0, (h .0, n .1 .1 .1))), fine-within t (h .1))
+pub limit-exactly : (t : Float) → LimitWithin t ↔ None (inOrder (ofLimit t))
+unfolding ofLimit
+limit-exactly t = when-exactly Time (λ e. omega (arith, e)) (within-limit t, limit-within t)
 
-  -- ---- with a limit for evening
-  pub limit-exactly : (t : Float) → (None (inOrder a) × LimitWithin t) ↔ None (inOrder (withLimit t a))
-  unfolding inOrder withLimit
-  limit-exactly t = (to, from)
-    where
-      to : None (inOrder a) × LimitWithin t → None (inOrder (withLimit t a))
-      to (n, w) = (n .0, (n .1 .0, (both-not (n .1 .1 .0) (within-limit t w), n .1 .1 .1)))
+-- ---- a list of spans
+spans-tests : (sp : Spans) → (((length (sp .ends) ≡ length (sp .starts)) × (length (sp .counts) ≡ length (sp .starts)))
+    × (((length (sp .starts) ≤ 4096) × AllFrom 0 4096 (sp .counts)) × (AllWithin (sp .starts) × AllWithin (sp .ends)))) ↔ None (inOrder (ofSpans sp))
+unfolding ofSpans unevenSpans manySpans
+spans-tests sp =
+    let n = length (sp .starts) in
+    also-exactly _ _ (when-exactly Lengths (λ e. omega (arith, e)) (either-exactly (differs-exactly _ n) (differs-exactly _ n)))
+    (also-exactly _ _ (when-exactly Counts (λ e. omega (arith, e)) (either-exactly (most-exactly 4096 n) (numbers-exactly 0 4096 (sp .counts))))
+    (when-exactly Time (λ e. omega (arith, e)) (times-exactly (sp .starts) (sp .ends))))
 
-      from : None (inOrder (withLimit t a)) → None (inOrder a) × LimitWithin t
-      from n = let h = neither _ _ (n .1 .1 .0) in ((n .0, (n .1 .0, (h .0, n .1 .1 .1))), limit-within t (h .1))
+pub spans-exactly : (sp : Spans) → SpansWithin sp ↔ None (inOrder (ofSpans sp))
+spans-exactly sp = (to, from)
+  where
+    to : SpansWithin sp → None (inOrder (ofSpans sp))
+    to w = spans-tests sp .0 ((w .ends-as-long, w .counts-as-long), ((w .few, w .counts-to-4096), (w .starts-within, w .ends-within)))
 
-  -- ---- with a list of spans
-  pub spans-exactly : (sp : Spans) → (None (inOrder a) × SpansWithin sp) ↔ None (inOrder (withSpans sp a))
-  unfolding inOrder withSpans unevenSpans manySpans
-  spans-exactly sp = (to, from)
-    where
-      to : None (inOrder a) × SpansWithin sp → None (inOrder (withSpans sp a))
-      to (n, w) = (
-        both-not (n .0) (both-not (differ-no (w .ends-as-long)) (differ-no (w .counts-as-long))),
-        (
-          both-not (n .1 .0)
-              (both-not (le-ltb 4096 (length (sp .starts)) (w .few))
-              (none-any (outside 0 4096) 0 (sp .counts) (λ i l. let h = w .counts-to-4096 i l in both-not (le-ltb _ _ (h .0)) (le-ltb _ _ (h .1))))),
-          (
-            both-not (n .1 .1 .0)
-                (both-not (none-any badTime nan (sp .starts) (λ i l. within-fine _ (w .starts-within i l))) (none-any badTime nan (sp .ends) (λ i l. within-fine _ (w .ends-within i l)))),
-            n .1 .1 .1,
-          ),
-        ),
-      )
+    from : None (inOrder (ofSpans sp)) → SpansWithin sp
+    from n =
+        let t = spans-tests sp .1 n in
+        record {
+          ends-as-long = t .0 .0;
+          counts-as-long = t .0 .1;
+          few = t .1 .0 .0;
+          counts-to-4096 = t .1 .0 .1;
+          starts-within = t .1 .1 .0;
+          ends-within = t .1 .1 .1;
+        }
 
-      from : None (inOrder (withSpans sp a)) → None (inOrder a) × SpansWithin sp
-      from n =
-          let l = neither _ _ (n .0) in
-          let m = neither _ _ (l .1) in
-          let k = neither _ _ (n .1 .0) in
-          let h = neither _ _ (k .1) in
-          let t = neither _ _ (n .1 .1 .0) in
-          let u = neither _ _ (t .1) in (
-            (l .0, (k .0, (t .0, n .1 .1 .1))),
-            record {
-              ends-as-long = alike (m .0);
-              counts-as-long = alike (m .1);
-              few = ltb-false 4096 (length (sp .starts)) (h .0);
-              counts-to-4096 = λ i g. inside 0 4096 _ (any-none (outside 0 4096) 0 (sp .counts) (h .1) i g);
-              starts-within = λ i g. fine-within _ (any-none badTime nan (sp .starts) (u .0) i g);
-              ends-within = λ i g. fine-within _ (any-none badTime nan (sp .ends) (u .1) i g);
-            },
-          )
+-- ---- so many places, of which so many are needed
+pub places-exactly : (places need : ℕ) → (need ≤ places) ↔ None (inOrder (ofPlaces places need))
+unfolding ofPlaces
+places-exactly places need = when-exactly Places (λ e. omega (arith, e)) (most-exactly places need)
 
-  -- ---- with so many places, of which so many are needed
-  pub places-exactly : (places need : ℕ) → (None (inOrder a) × (need ≤ places)) ↔ None (inOrder (withPlaces places need a))
-  unfolding inOrder withPlaces
-  places-exactly places need = (to, from)
-    where
-      to : None (inOrder a) × (need ≤ places) → None (inOrder (withPlaces places need a))
-      to (n, w) = (n .0, (n .1 .0, (n .1 .1 .0, (n .1 .1 .1 .0, (n .1 .1 .1 .1 .0, (both-not (n .1 .1 .1 .1 .1 .0) (le-ltb places need w), n .1 .1 .1 .1 .1 .1))))))
-
-      from : None (inOrder (withPlaces places need a)) → None (inOrder a) × (need ≤ places)
-      from n =
-          let h = neither _ _ (n .1 .1 .1 .1 .1 .0) in
-          ((n .0, (n .1 .0, (n .1 .1 .0, (n .1 .1 .1 .0, (n .1 .1 .1 .1 .0, (h .0, n .1 .1 .1 .1 .1 .1)))))), ltb-false places need (h .1))
-
-  -- ---- with one list more that belongs to the words
-  pub list-exactly : (list words : ℕ) → (None (inOrder a) × (list ≡ words)) ↔ None (inOrder (withList list words a))
-  unfolding inOrder withList
-  list-exactly list words = (to, from)
-    where
-      to : None (inOrder a) × (list ≡ words) → None (inOrder (withList list words a))
-      to (n, w) = (both-not (n .0) (differ-no w), n .1)
-
-      from : None (inOrder (withList list words a)) → None (inOrder a) × (list ≡ words)
-      from n = let h = neither _ _ (n .0) in ((h .0, n .1), alike (h .1))
+-- ---- one list more that belongs to the words
+pub list-exactly : (list words : ℕ) → (list ≡ words) ↔ None (inOrder (ofList list words))
+unfolding ofList
+list-exactly list words = when-exactly Lengths (λ e. omega (arith, e)) (differs-exactly list words)

@@ -1,8 +1,8 @@
 // What calls on words test: which refusals apply, and the first of them.
 ghost use mathlib.Core.Path.{_≡_};
-ghost use mathlib.Core.Bool.{_||_};
 ghost use Rattle.base.specs.Words.{words, spans};
-ghost use Rattle.word_calls.specs.Calls.{uneven, ofWords, withLevels, withTime, withLimit, unevenSpans, manySpans, withSpans, withPlaces, withList, soundRule, timedRule, limitRule, spansRule, phrasesRule};
+ghost use Rattle.word_calls.specs.Calls.{uneven, ofWords, ofSamples, ofLevels, ofTime, ofLimit, unevenSpans, manySpans, ofSpans, ofPlaces, ofList, soundRule, timedRule, limitRule, spansRule, phrasesRule};
+use base::Refusal;
 use base::Rule;
 use limits::Applies;
 
@@ -32,144 +32,94 @@ pub fn of_words(
 ) -> Applies
     ensures { λ r. ⌜ r ≡ ofWords (words (now (starts .entry)) (now (ends .entry)) (now (letters .entry)) (now (units .entry)) (now (keys .entry))) ⌝ }
 {
-    Applies {
-        lengths: lists_differ(
-            starts.len(),
-            ends.len(),
-            letters.len(),
-            units.len(),
-            keys.len(),
-        ),
-        counts: limits::sizes::many(starts.len()),
-        times: limits::bad_word_times(starts, ends),
-        letters: limits::bad_letters(letters, units),
-        levels: false,
-        places: false,
-        cut: false,
-    }
+    let uneven = lists_differ(
+        starts.len(),
+        ends.len(),
+        letters.len(),
+        units.len(),
+        keys.len(),
+    );
+    let times = limits::when(limits::bad_word_times(starts, ends), Refusal::Time);
+    let letters = limits::when(limits::bad_letters(letters, units), Refusal::Letters);
+    let counts = limits::when(limits::sizes::many(starts.len()), Refusal::Counts);
+    limits::also(
+        limits::when(uneven, Refusal::Lengths),
+        limits::also(counts, limits::also(times, letters)),
+    )
 }
 
-// Either of two.
-fn either(a: bool, b: bool) -> bool
-    ensures { λ r. ⌜ r ≡ (a || b) ⌝ }
+// What applies of so many samples: 4.
+pub fn of_samples(samples: usize) -> Applies
+    ensures { λ r. ⌜ r ≡ ofSamples samples ⌝ }
 {
-    if a {
-        return true;
-    }
-    b
+    limits::when(limits::sizes::many_samples(samples), Refusal::Counts)
 }
 
-// And what applies of so many levels, of a recording of so many samples: 4, 7.
-pub fn with_levels(a: Applies, levels: usize, samples: usize) -> Applies
-    ensures { λ r. ⌜ r ≡ withLevels levels samples a ⌝ }
+// What applies of so many levels, of a recording of so many samples: 4, 7.
+pub fn of_levels(levels: usize, samples: usize) -> Applies
+    ensures { λ r. ⌜ r ≡ ofLevels levels samples ⌝ }
 {
-    Applies {
-        lengths: a.lengths,
-        counts: either(a.counts, limits::sizes::many_samples(samples)),
-        times: a.times,
-        letters: a.letters,
-        levels: either(a.levels, limits::sizes::other_levels(levels, samples)),
-        places: a.places,
-        cut: a.cut,
-    }
+    let other = limits::sizes::other_levels(levels, samples);
+    limits::also(of_samples(samples), limits::when(other, Refusal::Levels))
 }
 
-// And what applies of one time more: 1.
-pub fn with_time(a: Applies, t: f64) -> Applies
-    ensures { λ r. ⌜ r ≡ withTime t a ⌝ }
+// What applies of a time that is no word's, as a duration: 1.
+pub fn of_time(t: f64) -> Applies
+    ensures { λ r. ⌜ r ≡ ofTime t ⌝ }
 {
-    Applies {
-        lengths: a.lengths,
-        counts: a.counts,
-        times: either(a.times, limits::times::bad_time(t)),
-        letters: a.letters,
-        levels: a.levels,
-        places: a.places,
-        cut: a.cut,
-    }
+    limits::when(limits::times::bad_time(t), Refusal::Time)
 }
 
-// And what applies of a limit for evening: 1.
-pub fn with_limit(a: Applies, t: f64) -> Applies
-    ensures { λ r. ⌜ r ≡ withLimit t a ⌝ }
+// What applies of a limit for evening: 1.
+pub fn of_limit(t: f64) -> Applies
+    ensures { λ r. ⌜ r ≡ ofLimit t ⌝ }
 {
-    Applies {
-        lengths: a.lengths,
-        counts: a.counts,
-        times: either(a.times, limits::times::bad_limit(t)),
-        letters: a.letters,
-        levels: a.levels,
-        places: a.places,
-        cut: a.cut,
-    }
+    limits::when(limits::times::bad_limit(t), Refusal::Time)
 }
 
 // Whether one of a span's three lists is not as long as the starts (refusal 3).
 fn span_lists_differ(starts: usize, ends: usize, counts: usize) -> bool
     ensures { λ r. ⌜ r ≡ unevenSpans starts ends counts ⌝ }
 {
-    either(
-        limits::sizes::differ_in_length(ends, starts),
-        limits::sizes::differ_in_length(counts, starts),
-    )
+    let ends_differ = limits::sizes::differ_in_length(ends, starts);
+    ends_differ | limits::sizes::differ_in_length(counts, starts)
 }
 
 // Too many spans, or too large a span count (refusal 4).
 fn many_spans(starts: &[f64], ends: &[f64], counts: &[u32]) -> bool
     ensures { λ r. ⌜ r ≡ manySpans (spans (now (starts .entry)) (now (ends .entry)) (now (counts .entry))) ⌝ }
 {
-    either(
-        limits::sizes::many(starts.len()),
-        limits::bad_counts(counts),
+    limits::sizes::many(starts.len()) | limits::bad_counts(counts)
+}
+
+// What applies of a list of spans: 3, 4, 1.
+pub fn of_spans(starts: &[f64], ends: &[f64], counts: &[u32]) -> Applies
+    ensures { λ r. ⌜ r ≡ ofSpans (spans (now (starts .entry)) (now (ends .entry)) (now (counts .entry))) ⌝ }
+{
+    let uneven = span_lists_differ(starts.len(), ends.len(), counts.len());
+    let times = limits::when(limits::bad_span_times(starts, ends), Refusal::Time);
+    let many = limits::when(many_spans(starts, ends, counts), Refusal::Counts);
+    limits::also(
+        limits::when(uneven, Refusal::Lengths),
+        limits::also(many, times),
     )
 }
 
-// And what applies of a list of spans: 3, 4, 1.
-pub fn with_spans(a: Applies, starts: &[f64], ends: &[f64], counts: &[u32]) -> Applies
-    ensures { λ r. ⌜ r ≡ withSpans (spans (now (starts .entry)) (now (ends .entry)) (now (counts .entry))) a ⌝ }
+// What applies of so many places, of which so many are needed: 6.
+pub fn of_places(places: usize, need: usize) -> Applies
+    ensures { λ r. ⌜ r ≡ ofPlaces places need ⌝ }
 {
-    Applies {
-        lengths: either(
-            a.lengths,
-            span_lists_differ(starts.len(), ends.len(), counts.len()),
-        ),
-        counts: either(a.counts, many_spans(starts, ends, counts)),
-        times: either(a.times, limits::bad_span_times(starts, ends)),
-        letters: a.letters,
-        levels: a.levels,
-        places: a.places,
-        cut: a.cut,
-    }
+    limits::when(limits::sizes::few_places(places, need), Refusal::Places)
 }
 
-// And what applies of so many places, of which so many are needed: 6.
-pub fn with_places(a: Applies, places: usize, need: usize) -> Applies
-    ensures { λ r. ⌜ r ≡ withPlaces places need a ⌝ }
+// What applies of one list more that belongs to the words: 3.
+pub fn of_list(list: usize, words: usize) -> Applies
+    ensures { λ r. ⌜ r ≡ ofList list words ⌝ }
 {
-    Applies {
-        lengths: a.lengths,
-        counts: a.counts,
-        times: a.times,
-        letters: a.letters,
-        levels: a.levels,
-        places: either(a.places, limits::sizes::few_places(places, need)),
-        cut: a.cut,
-    }
-}
-
-// And what applies of one list more that belongs to the words: 3.
-pub fn with_list(a: Applies, list: usize, words: usize) -> Applies
-    ensures { λ r. ⌜ r ≡ withList list words a ⌝ }
-{
-    Applies {
-        lengths: either(a.lengths, limits::sizes::differ_in_length(list, words)),
-        counts: a.counts,
-        times: a.times,
-        letters: a.letters,
-        levels: a.levels,
-        places: a.places,
-        cut: a.cut,
-    }
+    limits::when(
+        limits::sizes::differ_in_length(list, words),
+        Refusal::Lengths,
+    )
 }
 
 // What the tests find of a stage on sound: 3, 4, 1, 2, 7.
@@ -187,7 +137,7 @@ pub fn sound_rule(
         ⌜ r ≡ soundRule before levels samples ⌝ }
 {
     let a = of_words(starts, ends, letters, units, keys);
-    limits::chain(with_levels(a, levels, samples))
+    limits::chain(limits::also(a, of_levels(levels, samples)))
 }
 
 // What the tests find of a stage on sound that takes a duration: 3, 4, 1, 2, 7.
@@ -206,7 +156,8 @@ pub fn timed_rule(
         ⌜ r ≡ timedRule before levels samples duration ⌝ }
 {
     let a = of_words(starts, ends, letters, units, keys);
-    limits::chain(with_time(with_levels(a, levels, samples), duration))
+    let b = limits::also(a, of_levels(levels, samples));
+    limits::chain(limits::also(b, of_time(duration)))
 }
 
 // What the tests find of words and a limit for evening: 3, 4, 1, 2.
@@ -223,7 +174,7 @@ pub fn limit_rule(
         ⌜ r ≡ limitRule before limit ⌝ }
 {
     let a = of_words(starts, ends, letters, units, keys);
-    limits::chain(with_limit(a, limit))
+    limits::chain(limits::also(a, of_limit(limit)))
 }
 
 // What the tests find of words, spans, and so many places where so many are needed: 3, 4, 1, 2, 6.
@@ -244,13 +195,12 @@ pub fn spans_rule(
         let allSpans = spans (now («span_starts» .entry)) (now («span_ends» .entry)) (now (counts .entry)) in
         ⌜ r ≡ spansRule before allSpans places need ⌝ }
 {
-    let a = with_spans(
-        of_words(starts, ends, letters, units, keys),
-        span_starts,
-        span_ends,
-        counts,
+    let a = of_words(starts, ends, letters, units, keys);
+    let b = limits::also(
+        of_spans(span_starts, span_ends, counts),
+        of_places(places, need),
     );
-    limits::chain(with_places(a, places, need))
+    limits::chain(limits::also(a, b))
 }
 
 // What the tests find of words in phrases, spans, levels, and so many places where so many are needed: 3, 4, 1, 2, 7, 6.
@@ -274,16 +224,11 @@ pub fn phrases_rule(
         let allSpans = spans (now («span_starts» .entry)) (now («span_ends» .entry)) (now (counts .entry)) in
         ⌜ r ≡ phrasesRule before phrases allSpans levels samples places need ⌝ }
 {
-    let a = with_list(
-        of_words(starts, ends, letters, units, keys),
-        phrases,
-        starts.len(),
+    let a = of_words(starts, ends, letters, units, keys);
+    let b = limits::also(a, of_levels(levels, samples));
+    let d = limits::also(
+        of_spans(span_starts, span_ends, counts),
+        of_places(places, need),
     );
-    let b = with_spans(
-        with_levels(a, levels, samples),
-        span_starts,
-        span_ends,
-        counts,
-    );
-    limits::chain(with_places(b, places, need))
+    limits::chain(limits::also(b, limits::also(of_list(phrases, starts.len()), d)))
 }

@@ -1,20 +1,24 @@
 -- `word_calls::limit_rule` meets its contract. Assumes nothing.
-use native.Mathlib.Omega.{arith}
-use Rattle.word_calls.proofs.Filled.{limitRule-made}
+use Rattle.limits.proofs.Joined.{also-made, chain-made}
+use Rattle.word_calls.specs.Calls.{limitRule}
 use Rattle.word_calls.proofs.limit_rule.Statement.{statement}
 use Rattle.word_calls.proofs.limit_rule.Tie as tie
 
 of-words-requires : tie.Need-of-words-requires
-of-words-requires c κs = omega arith
+of-words-requires c κs = tt
 
-with-limit-requires : tie.Need-with-limit-requires
-with-limit-requires c κs = omega arith
+of-limit-requires : tie.Need-of-limit-requires
+of-limit-requires c κs = tt
+
+also-requires : tie.Need-also-requires
+also-requires c κs = tt
 
 chain-requires : tie.Need-chain-requires
-chain-requires c κs = omega arith
+chain-requires c κs = tt
 
 returns : tie.Need-returns
-returns c = limitRule-made _ (c .before .before .of-words .ensures) _ (c .before .with-limit .ensures) (c .chain .ensures)
+unfolding limitRule
+returns c = chain-made (also-made (c .before .before .before .of-words .ensures) (c .before .before .of-limit .ensures) (c .before .also .ensures)) (c .chain .ensures)
 
 pub limit-rule-spec : {M : Type 1} → statement M
-limit-rule-spec = tie.close (tie.spec of-words-requires with-limit-requires chain-requires returns)
+limit-rule-spec = tie.close (tie.spec of-words-requires of-limit-requires also-requires chain-requires returns)

@@ -1,6 +1,6 @@
 -- `word_calls::lists_differ` meets its contract. Assumes nothing.
 use native.Mathlib.Omega.{arith}
-use Rattle.word_calls.proofs.Filled.{uneven-1, uneven-2, uneven-3, uneven-4}
+use Rattle.word_calls.proofs.Uneven.{uneven-1, uneven-2, uneven-3, uneven-4}
 use Rattle.word_calls.proofs.lists_differ.Statement.{statement}
 use Rattle.word_calls.proofs.lists_differ.Tie as tie
 
