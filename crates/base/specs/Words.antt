@@ -77,7 +77,8 @@ zeroF = ofBits binary64 0
 
 unfoldable pub wordsInPlaces : ℕ → Words → Words
 wordsInPlaces places ws =
-    words (inPlaces zeroF places (ws .starts)) (inPlaces zeroF places (ws .ends)) (inPlaces 0 places (ws .letters)) (inPlaces 0 places (ws .units)) (inPlaces 0 places (ws .keys))
+    words (inPlaces zeroF places (ws .starts)) (inPlaces zeroF places (ws .ends))
+    (inPlaces 0 places (ws .letters)) (inPlaces 0 places (ws .units)) (inPlaces 0 places (ws .keys))
 
 -- ---- EDGE_QUIET of onsets.rs: so many quiet frames in a row, 80 ms, end a search.
 abbrev pub edgeQuiet : ℕ

@@ -15,13 +15,14 @@ ghost use Rattle.ends.specs.Ends.{endsCall};
 ghost use Rattle.phrase_align.specs.PhraseAlign.{alignCall};
 ghost use Rattle.even.specs.Even.{evenCall};
 ghost use Rattle.peak.specs.Peak.{peakCall};
-ghost use Rattle.last_run.specs.Calls.{lastRunCall};
+ghost use Rattle.last_run.specs.LastRun.{lastRunCall};
 ghost use Rattle.fit_to_sound.specs.FitToSound.{fitCall};
 ghost use Rattle.fit_file.specs.FitFile.{workPlaces, fitFileCall};
 ghost use Rattle.tally.specs.Tally.{tallyCall};
 ghost use Rattle.full_run.specs.FullRun.{input, fullRun};
 ghost use lib.ListN.{length};
-ghost use Rattle.c_api.specs.Answers.{heardOf, cutOf, levelOf, leftOf, leaves, leavesOf, movedOf, reply, replyOf, placedOf, placement, placementOf, reportOf, fullRunWith, fullRunOf, runOf, searchedOf, tallied, talliedOf, Unchanged};
+ghost use Rattle.c_api.specs.Answers.{heardOf, cutOf, levelOf, leftOf, leaves, leavesOf, movedOf, reply, replyOf, placedOf, placement, placementOf};
+ghost use Rattle.c_api.specs.Answers.{reportOf, fullRunWith, fullRunOf, runOf, searchedOf, tallied, talliedOf, Unchanged};
 ghost use Rattle.frames.specs.Frames.{frameAt, frameCeil, frameFromZero, frameSeconds};
 
 #[no_mangle]

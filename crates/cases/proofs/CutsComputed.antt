@@ -2,7 +2,7 @@
 use mathlib.Core.Path.{_≡_, refl}
 use Rattle.base.specs.Loop.{each}
 use Rattle.pieces.specs.Pieces.{cut, searched, searchTurn}
-use Rattle.cases.specs.CutFrames.{quietFrames}
+use Rattle.cases.specs.Table.{quietFrames}
 
 pub all-quiet : cut (quietFrames 0 2001) 0 ≡ 1599
 unfolding cut searched searchTurn each

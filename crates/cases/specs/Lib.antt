@@ -1,3 +1,2 @@
 -- The worked examples that document 01 marks with ●, and examples for further sentences of it, as equations about the definitions.
-pub mod CutFrames
 pub mod Table

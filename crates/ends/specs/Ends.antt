@@ -21,27 +21,7 @@ use Rattle.base.specs.declared.NextStart.the-variants.{Starts, NoNext}
 use Rattle.js.specs.Js.{jsMin, jsMax, jsToFixed}
 use Rattle.word_calls.specs.Calls.{timedRule, Output, moved}
 
--- ======== The search for the last loud frame.
-
--- ---- if env.loud(k) { last = k; quiet = 0; } else { quiet += 1; if quiet >= EDGE_QUIET && last >= 0 { break; } }
-pub record Last : Type 0 where
-  pub last : ℤ
-  pub quiet : ℕ
-
-abbrev pub lastTurn : ℕ → List Bool → ℤ → Last → Turn Last
-lastTurn edge row k s =
-    cond (loud row k) (on (record { last = k; quiet = 0 }))
-    (let s′ : Last = record { last = s .last; quiet = s .quiet + 1 } in cond (leb edge (s′ .quiet) && nonNeg (s′ .last)) (out s′) (on s′))
-
--- ---- let mut last = -1; let mut quiet = 0; let mut k = a; while k < bound { .. k += 1; }
-unfoldable pub lastLoud : ℕ → List Bool → ℤ → ℤ → ℤ
-lastLoud edge row a bound = range (lastTurn edge row) a bound (record { last = negsuc 0; quiet = 0 }) .last
-
--- ---- if last < 0 { continue; } let sound_end = frame_seconds(last + 1);
-unfoldable pub soundEnd : ℤ → SoundEnd
-soundEnd last = cond (ltZ last (pos 0)) NoSound (Ends (frameSeconds (last +ℤ pos 1)))
-
--- ======== One word.
+-- ======== A word and the next one that share an edge.
 
 -- ---- NO_LENGTH, 0.06 s: a shorter word is too short to be one.
 abbrev pub noLength : Float
@@ -80,10 +60,30 @@ pairEdge start nextEnd own other =
 unfoldable pub pairOf : List Bool → Times → Float → ℕ → ℕ → Times
 pairOf row w nextEnd own other = let start = pairStart row (w .start) nextEnd in times start (pairEdge start nextEnd own other)
 
+-- ======== Any other word: its end, by its sound.
+
 -- ---- next_start.map_or(duration, |s| js_max(s, w.start)): how far the sound is looked for.
 unfoldable pub reach : NextStart → Float → Float → Float
 reach (Starts s) duration start = jsMax s start
 reach NoNext duration start = duration
+
+-- ---- if env.loud(k) { last = k; quiet = 0; } else { quiet += 1; if quiet >= EDGE_QUIET && last >= 0 { break; } }
+pub record Last : Type 0 where
+  pub last : ℤ
+  pub quiet : ℕ
+
+abbrev pub lastTurn : ℕ → List Bool → ℤ → Last → Turn Last
+lastTurn edge row k s =
+    cond (loud row k) (on (record { last = k; quiet = 0 }))
+    (let s′ : Last = record { last = s .last; quiet = s .quiet + 1 } in cond (leb edge (s′ .quiet) && nonNeg (s′ .last)) (out s′) (on s′))
+
+-- ---- let mut last = -1; let mut quiet = 0; let mut k = a; while k < bound { .. k += 1; }
+unfoldable pub lastLoud : ℕ → List Bool → ℤ → ℤ → ℤ
+lastLoud edge row a bound = range (lastTurn edge row) a bound (record { last = negsuc 0; quiet = 0 }) .last
+
+-- ---- if last < 0 { continue; } let sound_end = frame_seconds(last + 1);
+unfoldable pub soundEnd : ℤ → SoundEnd
+soundEnd last = cond (ltZ last (pos 0)) NoSound (Ends (frameSeconds (last +ℤ pos 1)))
 
 -- ---- next_start.unwrap_or(duration)
 unfoldable pub orDuration : NextStart → Float → Float
@@ -96,7 +96,7 @@ trimmed NoSound limit w = w
 trimmed (Ends sound) limit w =
     cond (lt (sound ⊕ loose) (w .end) || lt (w .end ⊖ w .start) noLength) (times (w .start) (jsMax (w .start ⊕ noLength) (jsMin sound limit))) w
 
--- ---- Any other word: its end, by its sound.
+-- ---- let bound = env.frames().min(frame_at(next_start.map_or(duration, ..)));
 unfoldable pub endOf : List Bool → Float → NextStart → Times → Times
 endOf row duration next w =
     let bound = minZ (pos (length row)) (frameAt (reach next duration (w .start))) in

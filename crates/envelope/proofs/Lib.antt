@@ -1,4 +1,4 @@
--- Laws of loud frames, and the calls in plain words.
+-- Laws of levels, floor and loud frames, and the calls in plain words.
 pub mod Places
 pub mod Fours
 pub mod Floors

@@ -8,7 +8,8 @@ ghost use lib.ListN.{length};
 ghost use lib.Ieee.{Float, lt};
 ghost use Rattle.base.specs.Floats.{_⊗_};
 ghost use Rattle.base.specs.Words.{edges};
-ghost use Rattle.even.specs.Even.{minLetter, maxSpan, sum as sumOf, crushed, swollen, firstCrushed, withSwollen, lastCrushed, grown as grownTo, ceilingOf, borrowed as borrowedTo, endOf, stretchOf};
+ghost use Rattle.even.specs.Even.{minLetter, maxSpan, sum as sumOf, crushed, swollen, firstCrushed, withSwollen, lastCrushed};
+ghost use Rattle.even.specs.Even.{grown as grownTo, ceilingOf, borrowed as borrowedTo, endOf, stretchOf};
 
 // A word of fewer seconds is crushed.
 const CRUSHED: f64 = 0.08;

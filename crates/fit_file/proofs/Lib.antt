@@ -1,4 +1,4 @@
--- The call, in plain words.
+-- Laws of the fit by phrase, and the call in plain words.
 pub mod Members
 pub mod Local
 pub mod Turns

@@ -1,3 +1,3 @@
--- The fit by phrase, as a call.
+-- The fit by phrase.
 pub mod FitFile
 pub mod Parts

@@ -1,4 +1,5 @@
--- fit.rs, fit_to_sound, line by line. A `row` says which frames are loud; frames are whole numbers, as there; `letters` are the weights, `es` the words' times. Assumes nothing.
+-- fit.rs, fit_to_sound, line by line. A `row` says which frames are loud; frames are whole numbers, as there; `letters` are the weights,
+-- `es` the words' times. Assumes nothing.
 use Prim.Native.Nat.{ℕ, _+_, _-_}
 use mathlib.Core.Bool.{Bool, cond, not, _&&_, _||_, true, false}
 use mathlib.Core.List.{List}
@@ -120,10 +121,6 @@ maxNeed = ofBits binary64 0x3fd3_3333_3333_3333
 abbrev pub letterTime : Float
 letterTime = ofBits binary64 0x3fa9_9999_9999_999a
 
--- ---- sound_end: it has the loop of snap_ends, between frames from zero, and END_SILENCE ends it.
-unfoldable pub soundEndIn : List Bool → Float → Float → SoundEnd
-soundEndIn row from to = soundEnd (lastLoud endSilence row (frameFromZero from) (minZ (pos (length row)) (frameFromZero to)))
-
 -- ---- quiet_run: if env.loud(k) { run = 0; } else { run += 1; if run >= END_SILENCE { return true; } }
 pub record Quiet : Type 0 where
   pub run : ℕ
@@ -140,6 +137,10 @@ quietBetween row a b = range (quietTurn row) a b (record { run = 0; met = false 
 
 unfoldable pub quietRun : List Bool → Float → Float → Bool
 quietRun row from to = quietBetween row (frameFromZero from) (minZ (pos (length row)) (frameFromZero to))
+
+-- ---- sound_end: it has the loop of snap_ends, between frames from zero, and END_SILENCE ends it.
+unfoldable pub soundEndIn : List Bool → Float → Float → SoundEnd
+soundEndIn row from to = soundEnd (lastLoud endSilence row (frameFromZero from) (minZ (pos (length row)) (frameFromZero to)))
 
 -- ---- 5. if w.end > end + LOOSE && end - w.start >= js_min(MAX_NEED, LETTER_TIME * weight[i] as f64) { w.end = end; }
 unfoldable pub cutBack : ℕ → Float → Times → Times

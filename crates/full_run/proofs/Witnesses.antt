@@ -83,7 +83,14 @@ left ls samples =
 left-computed : left (half ∷ []) 160
     ≡ output (Accepted (record { floor = ofBits binary64 0x3f74_7ae1_47ae_147b; pieces = 1; words = 1; found = false })) (one (ofBits binary64 0x3fdf_5c28_f5c2_8f5c)) (7 ∷ 8 ∷ [])
     (half ∷ half ∷ []) (0 ∷ 8 ∷ []) (160 ∷ 8 ∷ [])
-unfolding runOn snapped settled asOne durationOf wordsInPlaces loudRow quietRow pieces walked pieceTurn collapseLoops pass loopTurn isLoop same equal copiesEnd handBackTails tailTurn snapOnsets onsetTurn prevEnd onsetOf onsetFrame word.snapEnds word.endTurn word.isPair word.endOf word.trimmed word.reach word.nextStart word.orDuration soundEnd lastLoud fitToSound starts.putInOrder starts.orderTurn starts.stepStart starts.inOrder starts.moveToRise starts.riseTurnOf starts.riseOf starts.clip even.evenOut even.evenTurn even.evenRun even.crushed even.swollen even.firstCrushed even.withSwollen even.lastCrushed even.grown even.ceilingOf even.borrows even.borrowed even.endOf even.stretchOf even.sum shares.share shares.sum partEdges onPart starts.settleEnds starts.endTurn starts.endOf starts.endedBy starts.cutBack starts.lastsTo starts.soundEndIn each run runBack up down fold peak floor frameFromZero frameAt frameCeil floorI64 ceilI64 frameSeconds jsMin jsMax under isNan add sub neg sum mul div lt le eq ofInt round size span climb units odd ofBits ofFields trailingZeros
+unfolding runOn snapped settled asOne durationOf wordsInPlaces loudRow quietRow pieces walked pieceTurn collapseLoops pass loopTurn isLoop same equal
+    copiesEnd handBackTails tailTurn snapOnsets onsetTurn prevEnd onsetOf onsetFrame word.snapEnds word.endTurn word.isPair word.endOf word.trimmed
+    word.reach word.nextStart word.orDuration soundEnd lastLoud fitToSound starts.putInOrder starts.orderTurn starts.stepStart starts.inOrder
+    starts.moveToRise starts.riseTurnOf starts.riseOf starts.clip even.evenOut even.evenTurn even.evenRun even.crushed even.swollen even.firstCrushed
+    even.withSwollen even.lastCrushed even.grown even.ceilingOf even.borrows even.borrowed even.endOf even.stretchOf even.sum shares.share shares.sum
+    partEdges onPart starts.settleEnds starts.endTurn starts.endOf starts.endedBy starts.cutBack starts.lastsTo starts.soundEndIn each run runBack up
+    down fold peak floor frameFromZero frameAt frameCeil floorI64 ceilI64 frameSeconds jsMin jsMax under isNan add sub neg sum mul div lt le eq ofInt
+    round size span climb units odd ofBits ofFields trailingZeros
 left-computed = refl
 
 by-levels : fullRun (lent (one half) no-spans 1) ≡ left (levels tone) (length tone)

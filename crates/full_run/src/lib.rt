@@ -67,10 +67,10 @@ pub fn full_run(
         let after = words (now (starts .exit)) (now (ends .exit)) (now (letters .exit)) (now (units .exit)) (now (keys .exit)) in
         let allSpans = spans (now («span_starts» .entry)) (now («span_ends» .entry)) (now (counts .entry)) in
         let room = workPlaces (length (now («work_starts» .entry))) (length (now («work_ends» .entry))) (length (now («work_letters» .entry))) in
-        ⌜ (output r after (now (phrases .exit)) (now (levels .exit)) (now («piece_starts» .exit)) (now («piece_ends» .exit))
-        ≡ fullRun
-        (input (now (samples .entry)) before allSpans (now (phrases .entry)) (now (levels .entry))
-        (now («piece_starts» .entry)) (now («piece_ends» .entry)) room))
+        let given = input (now (samples .entry)) before allSpans (now (phrases .entry)) (now (levels .entry))
+        (now («piece_starts» .entry)) (now («piece_ends» .entry)) room in
+        let left = output r after (now (phrases .exit)) (now (levels .exit)) (now («piece_starts» .exit)) (now («piece_ends» .exit)) in
+        ⌜ (left ≡ fullRun given)
         × (Unchanged r (now («work_starts» .entry)) (now («work_starts» .exit))
         × (Unchanged r (now («work_ends» .entry)) (now («work_ends» .exit))
         × Unchanged r (now («work_letters» .entry)) (now («work_letters» .exit)))) ⌝ }

@@ -99,11 +99,29 @@ abbrev second-report : Report
 second-report = report (ofBits binary64 0x3f94_7ae1_47ae_147b)
 
 first-computed : left (half ∷ (plusZero ∷ [])) 320 (nan ∷ nan ∷ []) (7 ∷ []) (7 ∷ []) ≡ output (Accepted first-report) one-word (0 ∷ 8 ∷ 9 ∷ []) (half ∷ plusZero ∷ []) (0 ∷ []) (320 ∷ [])
-unfolding runOn snapped settled byPhrase durationOf wordsInPlaces loudRow quietRow pieces walked pieceTurn collapseLoops pass loopTurn isLoop same equal copiesEnd handBackTails tailTurn snapOnsets onsetTurn prevEnd onsetOf onsetFrame word.snapEnds word.endTurn word.isPair word.endOf word.trimmed word.reach word.nextStart word.orDuration soundEnd lastLoud alignPhrases placeTurn groupOf placedIn extend inTheirPlaces placeGroup inside firstInside lastInside spreadBefore spreadAfter placeBetween betweenTurn fitFile fitPhrase membersOf memberTurn picked pickedEdges putEdges putBack fitGroup keepInside insideTurn insideSpan takeTrailing takeRun lastRun frameRun framesOf endsBetween fitToSound starts.putInOrder starts.orderTurn starts.stepStart starts.inOrder starts.moveToRise starts.riseTurnOf starts.riseOf starts.clip even.evenOut even.evenTurn even.evenRun even.crushed even.swollen even.firstCrushed even.withSwollen even.lastCrushed even.grown even.ceilingOf even.borrows even.borrowed even.endOf even.stretchOf even.sum shares.share shares.sum partEdges onPart starts.settleEnds starts.endTurn starts.endOf starts.endedBy starts.cutBack starts.lastsTo starts.soundEndIn each run runBack up down fold peak floor frameFromZero frameAt frameCeil floorI64 ceilI64 frameSeconds jsMin jsMax under isNan add sub neg sum mul div lt le eq ofInt round size span climb units odd ofBits ofFields trailingZeros
+unfolding runOn snapped settled byPhrase durationOf wordsInPlaces loudRow quietRow pieces walked pieceTurn collapseLoops pass loopTurn isLoop same
+    equal copiesEnd handBackTails tailTurn snapOnsets onsetTurn prevEnd onsetOf onsetFrame word.snapEnds word.endTurn word.isPair word.endOf
+    word.trimmed word.reach word.nextStart word.orDuration soundEnd lastLoud alignPhrases placeTurn groupOf placedIn extend inTheirPlaces placeGroup
+    inside firstInside lastInside spreadBefore spreadAfter placeBetween betweenTurn fitFile fitPhrase membersOf memberTurn picked pickedEdges putEdges
+    putBack fitGroup keepInside insideTurn insideSpan takeTrailing takeRun lastRun frameRun framesOf endsBetween fitToSound starts.putInOrder
+    starts.orderTurn starts.stepStart starts.inOrder starts.moveToRise starts.riseTurnOf starts.riseOf starts.clip even.evenOut even.evenTurn
+    even.evenRun even.crushed even.swollen even.firstCrushed even.withSwollen even.lastCrushed even.grown even.ceilingOf even.borrows even.borrowed
+    even.endOf even.stretchOf even.sum shares.share shares.sum partEdges onPart starts.settleEnds starts.endTurn starts.endOf starts.endedBy
+    starts.cutBack starts.lastsTo starts.soundEndIn each run runBack up down fold peak floor frameFromZero frameAt frameCeil floorI64 ceilI64
+    frameSeconds jsMin jsMax under isNan add sub neg sum mul div lt le eq ofInt round size span climb units odd ofBits ofFields trailingZeros
 first-computed = refl
 
 second-computed : left (two ∷ (plusZero ∷ [])) 320 (half-s ∷ half-s ∷ half-s ∷ []) (5 ∷ 6 ∷ []) (5 ∷ 6 ∷ []) ≡ output (Accepted second-report) one-word (0 ∷ 8 ∷ 9 ∷ []) (two ∷ plusZero ∷ half-s ∷ []) (0 ∷ 6 ∷ []) (320 ∷ 6 ∷ [])
-unfolding runOn snapped settled byPhrase durationOf wordsInPlaces loudRow quietRow pieces walked pieceTurn collapseLoops pass loopTurn isLoop same equal copiesEnd handBackTails tailTurn snapOnsets onsetTurn prevEnd onsetOf onsetFrame word.snapEnds word.endTurn word.isPair word.endOf word.trimmed word.reach word.nextStart word.orDuration soundEnd lastLoud alignPhrases placeTurn groupOf placedIn extend inTheirPlaces placeGroup inside firstInside lastInside spreadBefore spreadAfter placeBetween betweenTurn fitFile fitPhrase membersOf memberTurn picked pickedEdges putEdges putBack fitGroup keepInside insideTurn insideSpan takeTrailing takeRun lastRun frameRun framesOf endsBetween fitToSound starts.putInOrder starts.orderTurn starts.stepStart starts.inOrder starts.moveToRise starts.riseTurnOf starts.riseOf starts.clip even.evenOut even.evenTurn even.evenRun even.crushed even.swollen even.firstCrushed even.withSwollen even.lastCrushed even.grown even.ceilingOf even.borrows even.borrowed even.endOf even.stretchOf even.sum shares.share shares.sum partEdges onPart starts.settleEnds starts.endTurn starts.endOf starts.endedBy starts.cutBack starts.lastsTo starts.soundEndIn each run runBack up down fold peak floor frameFromZero frameAt frameCeil floorI64 ceilI64 frameSeconds jsMin jsMax under isNan add sub neg sum mul div lt le eq ofInt round size span climb units odd ofBits ofFields trailingZeros
+unfolding runOn snapped settled byPhrase durationOf wordsInPlaces loudRow quietRow pieces walked pieceTurn collapseLoops pass loopTurn isLoop same
+    equal copiesEnd handBackTails tailTurn snapOnsets onsetTurn prevEnd onsetOf onsetFrame word.snapEnds word.endTurn word.isPair word.endOf
+    word.trimmed word.reach word.nextStart word.orDuration soundEnd lastLoud alignPhrases placeTurn groupOf placedIn extend inTheirPlaces placeGroup
+    inside firstInside lastInside spreadBefore spreadAfter placeBetween betweenTurn fitFile fitPhrase membersOf memberTurn picked pickedEdges putEdges
+    putBack fitGroup keepInside insideTurn insideSpan takeTrailing takeRun lastRun frameRun framesOf endsBetween fitToSound starts.putInOrder
+    starts.orderTurn starts.stepStart starts.inOrder starts.moveToRise starts.riseTurnOf starts.riseOf starts.clip even.evenOut even.evenTurn
+    even.evenRun even.crushed even.swollen even.firstCrushed even.withSwollen even.lastCrushed even.grown even.ceilingOf even.borrows even.borrowed
+    even.endOf even.stretchOf even.sum shares.share shares.sum partEdges onPart starts.settleEnds starts.endTurn starts.endOf starts.endedBy
+    starts.cutBack starts.lastsTo starts.soundEndIn each run runBack up down fold peak floor frameFromZero frameAt frameCeil floorI64 ceilI64
+    frameSeconds jsMin jsMax under isNan add sub neg sum mul div lt le eq ofInt round size span climb units odd ofBits ofFields trailingZeros
 second-computed = refl
 
 by-levels-1 : fullRun first-given ≡ left (levels recording) (length recording) (nan ∷ nan ∷ []) (7 ∷ []) (7 ∷ [])

@@ -32,7 +32,9 @@ Printable (Accepted report) starts ends phrases firsts lasts room =
     × (NoNans (report .words) starts × NoNans (report .words) ends))))))
 
 -- ---- Lists that belong together are as long as each other, the bodies are there, and what is printed finds room.
-pub record Sized (bodies levels count starts ends letters units keys spanStarts spanEnds counts phrases pieceStarts pieceEnds workStarts workEnds workLetters room : ℕ) : Type 0 where
+pub record Sized
+    (bodies levels count starts ends letters units keys spanStarts spanEnds counts phrases pieceStarts pieceEnds workStarts workEnds workLetters room : ℕ)
+    : Type 0 where
   pub whole : wordSize * starts + spanSize * spanStarts ≤ bodies
   pub own : levels ≡ count / 160
   pub few : starts ≤ 512

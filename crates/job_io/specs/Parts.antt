@@ -1,5 +1,5 @@
--- What only the contracts of unchecked parts cite; a reader of the program's promise may skip it. What a read gives is in no contract, so that these say: there are bytes
--- of which it holds. Assumes nothing.
+-- What only the contracts of unchecked parts cite; a reader of the program's promise may skip it. What a read gives is in no contract,
+-- so that these say: there are bytes of which it holds. Assumes nothing.
 use Prim.Native.Nat.{ℕ, _*_, _/_, _≤_}
 use mathlib.Core.Path.{_≡_}
 use mathlib.Core.List.{List, _++_}

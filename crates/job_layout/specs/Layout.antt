@@ -77,7 +77,8 @@ column read file at size n = table (λ (i : ℕ). read file (at + size * i)) n 0
 -- ---- "Word, 28 bytes: start, end (f64), letters, units, key (u32)."
 unfoldable pub wordsFrom : List ℕ → ℕ → ℕ → Words
 wordsFrom file at n =
-    words (column f64At file at wordSize n) (column f64At file (at + 8) wordSize n) (column u32At file (at + 16) wordSize n) (column u32At file (at + 20) wordSize n) (column u32At file (at + 24) wordSize n)
+    words (column f64At file at wordSize n) (column f64At file (at + 8) wordSize n)
+    (column u32At file (at + 16) wordSize n) (column u32At file (at + 20) wordSize n) (column u32At file (at + 24) wordSize n)
 
 -- ---- "Span, 20 bytes: start, end (f64), count (u32)."
 unfoldable pub spansFrom : List ℕ → ℕ → ℕ → Spans

@@ -1,5 +1,5 @@
--- What the program prints, as bytes of ASCII (document 01, "Tally, peak, job file"). Digits in upper case, one space between two parts and a line's end after each line, the
--- last too, are those of document 01's example. Assumes nothing.
+-- What the program prints, as bytes of ASCII (document 01, "Tally, peak, job file"). Digits in upper case, one space between two parts
+-- and a line's end after each line, the last too, are those of document 01's example. Assumes nothing.
 use Prim.Native.Nat.{ℕ, zero, suc, _+_, _/_, _%_}
 use mathlib.Core.Bool.{cond}
 use mathlib.Core.List.{List, [], _∷_, _++_}

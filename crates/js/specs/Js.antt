@@ -28,7 +28,8 @@ nearestUp a b = cond (ltb (a % b * 2) b) (a / b) (a / b + 1)
 
 -- ---- Number.prototype.toFixed (ECMAScript 2024, 21.1.3.3) with three decimals, read back. x is ±a / b.
 -- "If x is not finite", x. "If x < 0": "-", and x is -x. "If x ≥ 10^21", x. Else "let n be an integer for which n / 10^f - x is as
--- close to zero as possible. If there are two such n, pick the larger n"; read back as document 01 has it, "the answer is the double nearest n / 1000, with the sign of x".
+-- close to zero as possible. If there are two such n, pick the larger n"; read back as document 01 has it, "the answer is the double
+-- nearest n / 1000, with the sign of x".
 unfoldable pub jsToFixed : Float → Float
 jsToFixed nan = nan
 jsToFixed (inf s) = inf s

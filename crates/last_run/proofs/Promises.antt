@@ -16,8 +16,7 @@ use Rattle.base.specs.declared.Rule.the-variants.{Fine, Breaks}
 use Rattle.base.proofs.First.{first-here, first-skip, first-end}
 use Rattle.limits.specs.Limits.{badTime, manySamples}
 use Rattle.envelope.specs.Envelope.{loudRow}
-use Rattle.last_run.specs.LastRun.{lastRun}
-use Rattle.last_run.specs.Calls.{tests, lastRunCall}
+use Rattle.last_run.specs.LastRun.{lastRun, tests, lastRunCall}
 use Rattle.last_run.specs.Exact.{NoSound, SoundIs, firstFrame, endFrame}
 use Rattle.last_run.specs.declared.Run.{Run}
 use Rattle.last_run.specs.declared.Run.the-variants.{Sound, Nothing}

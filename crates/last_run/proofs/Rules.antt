@@ -12,8 +12,7 @@ use Rattle.base.specs.declared.Rule.{Rule}
 use Rattle.base.specs.declared.Rule.the-variants.{Fine}
 use Rattle.base.proofs.First.{fine-none}
 use Rattle.envelope.specs.Envelope.{loudRow}
-use Rattle.last_run.specs.LastRun.{lastRun}
-use Rattle.last_run.specs.Calls.{tests, byRule, lastRunCall}
+use Rattle.last_run.specs.LastRun.{lastRun, tests, byRule, lastRunCall}
 
 pub call-by : (levels : List Float) (floor : Float) (count : ℕ) (from to : Float) {r : Rule} → first (tests (length levels) count from to) ≡ r
     → lastRunCall levels floor count from to ≡ byRule r (lastRun (loudRow floor levels) from to)

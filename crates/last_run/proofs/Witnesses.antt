@@ -13,8 +13,7 @@ use Rattle.base.specs.declared.Refusal.the-variants.{Counts, Time, Levels}
 use Rattle.limits.specs.Limits.{timeOf}
 use Rattle.frames.specs.Frames.{floorI64, frameAt, frameFromZero, frameSeconds}
 use Rattle.envelope.specs.Envelope.{loudRow}
-use Rattle.last_run.specs.LastRun.{endsBetween, framesOf, frameRun, lastRun}
-use Rattle.last_run.specs.Calls.{tests, lastRunCall}
+use Rattle.last_run.specs.LastRun.{endsBetween, framesOf, frameRun, lastRun, tests, lastRunCall}
 use Rattle.last_run.specs.declared.Run.the-variants.{Sound, Nothing}
 use Rattle.last_run.specs.declared.Answer.the-variants.{Accepted, Refused}
 

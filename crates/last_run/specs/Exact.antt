@@ -15,9 +15,9 @@ use Rattle.envelope.specs.Envelope.{loud}
 abbrev pub NoneLoud : List Bool → ℕ → ℕ → Type 0
 NoneLoud row lo hi = (j : ℕ) → lo ≤ j → j < hi → loud row (pos j) ≡ false
 
--- ---- "It bridges 15 quiet frames and stops at 16": the last run of the frames from lo to before hi goes from the loud frame `first` to the loud frame `last`.
--- `is-last`: no frame after it is loud. `bridges`: a loud frame of it, other than the first, has 15 quiet frames at the most between it and the loud frame before.
--- `stops`: 16 quiet frames lie before the first, or fewer where the range begins there.
+-- ---- "It bridges 15 quiet frames and stops at 16": the last run of the frames from lo to before hi goes from the loud frame `first` to the
+-- loud frame `last`. `is-last`: no frame after it is loud. `bridges`: a loud frame of it, other than the first, has 15 quiet frames at the
+-- most between it and the loud frame before. `stops`: 16 quiet frames lie before the first, or fewer where the range begins there.
 pub record RunIs (row : List Bool) (lo hi first last : ℕ) : Type 0 where
   pub from : lo ≤ first
   pub order : first ≤ last
@@ -35,7 +35,9 @@ NoSound row lo hi = NoneLoud row lo hi ⊎ ((first : ℕ) × ((last : ℕ) × (R
 -- ---- "either a start and an end in seconds": where the first frame of the run starts, and where the last ends.
 abbrev pub SoundIs : List Bool → ℕ → ℕ → Float → Float → Type 0
 SoundIs row lo hi start end =
-    (first : ℕ) × ((last : ℕ) × ((RunIs row lo hi first last × (3 ≤ last - first)) × ((start ≡ frameSeconds (pos first)) × (end ≡ frameSeconds (pos (last + 1))))))
+    (first : ℕ)
+    × ((last : ℕ)
+    × ((RunIs row lo hi first last × (3 ≤ last - first)) × ((start ≡ frameSeconds (pos first)) × (end ≡ frameSeconds (pos (last + 1))))))
 
 -- ---- The range of a search between two times: from the frame of the first to before the frame of the second, both from zero, or to the last frame there is.
 abbrev pub firstFrame : Float → ℕ

@@ -1,7 +1,7 @@
--- fit.rs, last_run, line by line. A `row` says which frames are loud; frames are whole numbers, as there. Assumes nothing.
+-- fit.rs, last_run, line by line, and the call. A `row` says which frames are loud; frames are whole numbers, as there. Assumes nothing.
 use Prim.Native.Nat.{ℕ}
 use mathlib.Core.Bool.{Bool, cond, _&&_, _||_}
-use mathlib.Core.List.{List}
+use mathlib.Core.List.{List, [], _∷_}
 use lib.IntN.{ℤ, pos, negsuc, _+ℤ_, _-ℤ_}
 use lib.Signed.{ltZ, nonNeg}
 use lib.ListN.{length}
@@ -9,12 +9,19 @@ use lib.Ieee.{Float}
 use Rattle.base.specs.Whole.{toNat, minZ}
 use Rattle.base.specs.Loop.{Turn, on, out, rangeBack}
 use Rattle.base.specs.Words.{endSilence}
+use Rattle.base.specs.Refusals.{Test, test, first}
+use Rattle.base.specs.declared.Refusal.the-variants.{Time, Counts, Levels}
+use Rattle.base.specs.declared.Rule.{Rule}
+use Rattle.base.specs.declared.Rule.the-variants.{Fine, Breaks}
+use Rattle.limits.specs.Limits.{badTime, manySamples, otherLevels}
 use Rattle.frames.specs.Frames.{frameFromZero, frameSeconds}
-use Rattle.envelope.specs.Envelope.{loud}
+use Rattle.envelope.specs.Envelope.{loud, loudRow}
 use Rattle.last_run.specs.declared.FrameRun.{FrameRun}
 use Rattle.last_run.specs.declared.FrameRun.the-variants.{Frames, NoFrames}
 use Rattle.last_run.specs.declared.Run.{Run}
 use Rattle.last_run.specs.declared.Run.the-variants.{Sound, Nothing}
+use Rattle.last_run.specs.declared.Answer.{Answer}
+use Rattle.last_run.specs.declared.Answer.the-variants.{Accepted, Refused}
 
 -- ---- MIN_RUN: the last frame of a run that counts lies so many frames behind the first, or more.
 abbrev pub minRun : ℕ
@@ -54,3 +61,17 @@ secondsOf NoFrames = Nothing
 -- ---- last_run: let lo = frame_from_zero(from); let mut k = env.frames().min(frame_from_zero(to)) - 1;
 unfoldable pub lastRun : List Bool → Float → Float → Run
 lastRun row from to = secondsOf (frameRun row (frameFromZero from) (minZ (pos (length row)) (frameFromZero to)))
+
+-- ======== What the public call answers: "either a start and an end in seconds or no sound", or a refusal.
+
+-- ---- Refusals 4, 1, 7, in this order: both times are within the range of times.
+unfoldable pub tests : ℕ → ℕ → Float → Float → List Test
+tests levels count from to =
+    test (manySamples count) Counts ∷ test (badTime from || badTime to) Time ∷ test (otherLevels levels count) Levels ∷ []
+
+abbrev pub byRule : Rule → Run → Answer
+byRule Fine run = Accepted run
+byRule (Breaks r) run = Refused r
+
+unfoldable pub lastRunCall : List Float → Float → ℕ → Float → Float → Answer
+lastRunCall levels floor count from to = byRule (first (tests (length levels) count from to)) (lastRun (loudRow floor levels) from to)

@@ -1,6 +1,6 @@
 // The last run of sound between two times, from the envelope.
 ghost use mathlib.Core.Path.{_≡_};
-ghost use Rattle.last_run.specs.Calls.{lastRunCall};
+ghost use Rattle.last_run.specs.LastRun.{lastRunCall};
 use super::Answer;
 use envelope::view::Envelope;
 

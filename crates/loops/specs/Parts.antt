@@ -15,7 +15,8 @@ use Rattle.loops.specs.declared.Left.{Left}
 -- ---- The word at place `from`, at place `to` too.
 unfoldable pub moved : ℕ → ℕ → Words → Words
 moved to from ws =
-    words (set (ws .starts) to (getD (ws .starts) from nan)) (set (ws .ends) to (getD (ws .ends) from nan)) (set (ws .letters) to (getD (ws .letters) from 0)) (set (ws .units) to (getD (ws .units) from 0)) (set (ws .keys) to (getD (ws .keys) from 0))
+    words (set (ws .starts) to (getD (ws .starts) from nan)) (set (ws .ends) to (getD (ws .ends) from nan))
+    (set (ws .letters) to (getD (ws .letters) from 0)) (set (ws .units) to (getD (ws .units) from 0)) (set (ws .keys) to (getD (ws .keys) from 0))
 
 -- ---- Keys, as words of which nothing else is looked at.
 abbrev pub onlyKeys : List ℕ → Words

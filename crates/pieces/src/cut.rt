@@ -58,7 +58,8 @@ fn quiet_to(part: &[f64], floor: f64, from: usize) -> usize
     k
 }
 
-// The search, one step on: it looks at one frame more than the longest run has, the last of them first; it goes on behind the first that is not quiet, or, where all are quiet, behind the end of their run.
+// The search, one step on: it looks at one frame more than the longest run has, the last of them first; it goes on behind the first that
+// is not quiet, or, where all are quiet, behind the end of their run.
 fn search_run(part: &[f64], floor: f64, q: Quiet) -> Quiet
     requires { ⌜ (length (now part) ≡ 800) × ((q .start + q .longest < 800) × Stands (quietRow floor (now part)) q) ⌝ }
     ensures { λ r. ⌜ Stands (quietRow floor (now (part .entry))) r × (q .start < r .start) ⌝ }

@@ -1,4 +1,4 @@
--- The words that loops left, in the first places.
+-- Laws of a full run after its levels.
 mod Row
 pub mod Places
 mod Stages

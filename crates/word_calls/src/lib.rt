@@ -1,7 +1,8 @@
 // What calls on words test: which refusals apply, and the first of them.
 ghost use mathlib.Core.Path.{_≡_};
 ghost use Rattle.base.specs.Words.{words, spans};
-ghost use Rattle.word_calls.specs.Calls.{uneven, ofWords, ofSamples, ofLevels, ofTime, ofLimit, unevenSpans, manySpans, ofSpans, ofPlaces, ofList, soundRule, timedRule, limitRule, spansRule, phrasesRule};
+ghost use Rattle.word_calls.specs.Calls.{uneven, ofWords, ofSamples, ofLevels, ofTime, ofLimit, unevenSpans, manySpans, ofSpans, ofPlaces, ofList};
+ghost use Rattle.word_calls.specs.Calls.{soundRule, timedRule, limitRule, spansRule, phrasesRule};
 use base::Refusal;
 use base::Rule;
 use limits::Applies;

@@ -241,7 +241,16 @@ returns c =
     let at93 = at82 .before .before .before .before .before .before .before .before .before .before .before in
     let args = at93 .args in
     let pre = at93 .pre in (
-      λ file h. text-is file _ _ _ _ _ h (words (at70 .read-words .last .1 .0) (at70 .read-words .last .1 .1 .0) (at70 .read-words .last .1 .1 .1 .0) (at70 .read-words .last .1 .1 .1 .1 .0) (at70 .read-words .last .1 .1 .1 .1 .1 .0)) (spans (at56 .read-spans .last .1 .1 .0) (at56 .read-spans .last .1 .1 .1 .0) (at56 .read-spans .last .1 .1 .1 .1 .0)) (at48 .clear .last .0) (now (args .piece-starts)) (now (args .piece-ends)) (length (now (args .work-starts))) (length (now (args .phrases))) _ _ (at31 .run-heard .result) (words (at31 .run-heard .last .1 .1 .0) (at31 .run-heard .last .1 .1 .1 .0) (at31 .run-heard .last .1 .1 .1 .1 .0) (at31 .run-heard .last .1 .1 .1 .1 .1 .0) (at31 .run-heard .last .1 .1 .1 .1 .1 .1 .0)) (at31 .run-heard .last .1 .1 .1 .1 .1 .1 .1 .1 .1 .1 .0) (at31 .run-heard .last .1 .1 .1 .1 .1 .1 .1 .1 .1 .1 .1 .0) (at31 .run-heard .last .1 .1 .1 .1 .1 .1 .1 .1 .1 .1 .1 .1 .0) (at70 .read-words .ensures) (at56 .read-spans .ensures) (at70 .read-words .kept .1 .0) (at48 .clear .ensures) (omega (arith, (pre .phrases-as-long), (at70 .read-words .kept .1 .1 .1 .1 .1 .0), (pre .keys-as-long))) (omega (arith, (pre .work-starts-as-long), (at70 .read-words .kept .1 .1 .1 .1 .1 .0), (pre .keys-as-long))) (at56 .read-spans .kept .1 .1 .0) (pre .piece-starts-five) (at31 .run-heard .ensures) (c .before .before .print .ensures .0),
+      λ file h. text-is file _ _ _ _ _ h
+          (words (at70 .read-words .last .1 .0) (at70 .read-words .last .1 .1 .0) (at70 .read-words .last .1 .1 .1 .0) (at70 .read-words .last .1 .1 .1 .1 .0) (at70 .read-words .last .1 .1 .1 .1 .1 .0))
+          (spans (at56 .read-spans .last .1 .1 .0) (at56 .read-spans .last .1 .1 .1 .0) (at56 .read-spans .last .1 .1 .1 .1 .0)) (at48 .clear .last .0)
+          (now (args .piece-starts)) (now (args .piece-ends)) (length (now (args .work-starts))) (length (now (args .phrases))) _ _ (at31 .run-heard .result)
+          (words (at31 .run-heard .last .1 .1 .0) (at31 .run-heard .last .1 .1 .1 .0) (at31 .run-heard .last .1 .1 .1 .1 .0) (at31 .run-heard .last .1 .1 .1 .1 .1 .0) (at31 .run-heard .last .1 .1 .1 .1 .1 .1 .0))
+          (at31 .run-heard .last .1 .1 .1 .1 .1 .1 .1 .1 .1 .1 .0) (at31 .run-heard .last .1 .1 .1 .1 .1 .1 .1 .1 .1 .1 .1 .0)
+          (at31 .run-heard .last .1 .1 .1 .1 .1 .1 .1 .1 .1 .1 .1 .1 .0) (at70 .read-words .ensures) (at56 .read-spans .ensures) (at70 .read-words .kept .1 .0)
+          (at48 .clear .ensures) (omega (arith, (pre .phrases-as-long), (at70 .read-words .kept .1 .1 .1 .1 .1 .0), (pre .keys-as-long)))
+          (omega (arith, (pre .work-starts-as-long), (at70 .read-words .kept .1 .1 .1 .1 .1 .0), (pre .keys-as-long))) (at56 .read-spans .kept .1 .1 .0)
+          (pre .piece-starts-five) (at31 .run-heard .ensures) (c .before .before .print .ensures .0),
       c .before .before .print .ensures .1,
     )
 

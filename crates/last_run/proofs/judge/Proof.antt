@@ -1,7 +1,7 @@
 -- `last_run::judge` meets its contract: the tests in their order. Assumes nothing.
 use mathlib.Core.Path.{sym, _∙_}
 use Rattle.base.proofs.First.{first-here, first-skip, first-end}
-use Rattle.last_run.specs.Calls.{tests}
+use Rattle.last_run.specs.LastRun.{tests}
 use Rattle.last_run.proofs.judge.Statement.{statement}
 use Rattle.last_run.proofs.judge.Tie as tie
 
