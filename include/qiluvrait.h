@@ -266,15 +266,14 @@ struct qiluvrait_run qiluvrait_last_run(const double *levels, size_t levels_len,
 /*
  * Fits words to their sound. Starts are put in order, 0.02 s apart at the least, and ends between the start
  * and the duration. A word that starts in silence starts where three frames in a row are loud, searched up to
- * 1.5 s ahead and to 0.05 s before the next word, and keeps at most 0.5 s of its length. No word runs into
- * the next one. Crushed words are evened (qiluvrait_even_out) without a limit. Then each word's sound is
- * searched from its start to the next word's start, or to the duration: it ends before 15 quiet frames. A
- * word in which no frame is loud stays as it is in this step. An
- * end that lies more than 0.05 s past it is cut back, where that leaves the word 0.05 s for each letter, or
- * 0.3 s. A word lasts until the next one where no 15 quiet frames lie between, and the last one until its
- * sound's end. Crushed words are evened again, with the duration as limit. The duration, in seconds, is among
- * the times for refusal 1. Answers 0 where it accepts, else the refusal: 3, 4, 1, 2 or 7. Writes starts and
- * ends.
+ * 1.5 s ahead and to 0.05 s before the next word, and keeps at most 0.5 s of its length. No word runs into the
+ * next one. Crushed words are evened (qiluvrait_even_out) without a limit. Then each word's sound is searched
+ * from its start to the next word's start, or to the duration: it ends before 15 quiet frames. A word in which
+ * no frame is loud stays as it is in this step. An end that lies more than 0.05 s past it is cut back, where
+ * that leaves the word 0.05 s for each letter, or 0.3 s. A word lasts until the next one where no 15 quiet
+ * frames lie between, and the last one until its sound's end. Crushed words are evened again, with the
+ * duration as limit. The duration, in seconds, is among the times for refusal 1. Answers 0 where it accepts,
+ * else the refusal: 3, 4, 1, 2 or 7. Writes starts and ends.
  */
 uint32_t qiluvrait_fit_to_sound(double *starts, size_t starts_len, double *ends, size_t ends_len,
                                 const uint32_t *letters, size_t letters_len, const uint32_t *units,
@@ -287,12 +286,12 @@ uint32_t qiluvrait_fit_to_sound(double *starts, size_t starts_len, double *ends,
  * place of the spans; a word whose number has no span stays as it is. The words of a phrase are fitted
  * (qiluvrait_fit_to_sound) with the sooner of count / 16000 and the span's end as duration, and kept inside
  * the span, 0.04 s long at the least. A last run of sound that starts more than 0.15 s after the last word,
- * before the span's end, becomes the last word's, and the word before ends at its start at the latest. Then the phrase's words are evened, with the span's end as
- * limit. A span under 0.04 s puts starts at its end minus 0.04, before its own start. Nothing of a phrase
- * depends on another phrase's words or span. Needs three lists of work space, each as long as the words; what
- * they hold afterwards is free, and after a refusal they are as they were. A phrase list of another length
- * than the words is refusal 3. Answers 0 where it accepts, else the refusal: 3, 4, 1, 2, 7 or 6. Writes starts
- * and ends, and the work space.
+ * before the span's end, becomes the last word's, and the word before ends at its start at the latest. Then
+ * the phrase's words are evened, with the span's end as limit. A span under 0.04 s puts starts at its end
+ * minus 0.04, before its own start. Nothing of a phrase depends on another phrase's words or span. Needs three
+ * lists of work space, each as long as the words; what they hold afterwards is free, and after a refusal they
+ * are as they were. A phrase list of another length than the words is refusal 3. Answers 0 where it accepts,
+ * else the refusal: 3, 4, 1, 2, 7 or 6. Writes starts and ends, and the work space.
  */
 uint32_t qiluvrait_fit_file(double *starts, size_t starts_len, double *ends, size_t ends_len,
                             const uint32_t *letters, size_t letters_len, const uint32_t *units,
