@@ -129,7 +129,7 @@ class Logs(Tree):
         self.assertEqual(status, 0, lines)
         name = None
         for line in lines:
-            if m := re.match(r"(a fact fails|shape or name|unclear): \d+$", line):
+            if m := re.match(r"(a fact fails|in a law|shape or name|unclear): \d+$", line):
                 name = m.group(1)
             if line.startswith("  c/e: "):
                 return name, line.strip()
@@ -154,6 +154,14 @@ class Logs(Tree):
         ):
             with self.subTest(message=message):
                 self.assertEqual(self.group_of(message), "a fact fails")
+
+    def test_a_fact_in_a_law(self):
+        self.assertEqual(self.one(f"COPY/proofs/Laws.antt:7:3: error: `law`: {DIFFERS}"), ("in a law", f"c/e: proofs/Laws.antt:7: `law`: {DIFFERS}"))
+        log = f"COPY/proofs/Laws.antt:7:3: error: `law`: {DIFFERS}\nCOPY/proofs/two/Proof.antt:7:3: error: `returns`: {DIFFERS}"
+        group, line = self.one(log)
+        self.assertEqual(group, "in a law")
+        self.assertTrue(line.endswith("(later a fact fails, proofs/two/Proof.antt:7)"), line)
+        self.assertEqual(self.one(f"COPY/proofs/Laws.antt:7:3: error: `law`: {NO_FIELD}")[0], "shape or name")
 
     def test_not_proved_by_search(self):
         group, line = self.one("fn c::one: proved\nnote: COPY/src/lib.rt:5:1: it is not proved that what the function ensures holds when it returns (`returns`)")
@@ -246,7 +254,7 @@ class Logs(Tree):
         self.tried(f"COPY/proofs/two/Proof.antt:7:3: error: `returns`: {DIFFERS}\n{END}")
         self.assertIn("not tried: 1 (1 further); tried on another text of their crate: 0", self.run_it()[1])
         self.tried(f"COPY/proofs/two/Proof.antt:7:3: error: `returns`: {DIFFERS}\n{END}", further=True)
-        self.assertIn("tried: 1 (1 a fact fails, 0 shape or name, 0 unclear, 0 not refused)", self.run_it()[1])
+        self.assertIn("tried: 1 (1 a fact fails, 0 in a law, 0 shape or name, 0 unclear, 0 not refused)", self.run_it()[1])
 
     def test_edits_of_proofs_are_listed(self):
         self.edit(GOOD)
