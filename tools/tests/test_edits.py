@@ -113,6 +113,12 @@ class Texts(Tree):
         self.assertEqual(status, 1)
         self.assertEqual(lines, ["crates/c/must-fail/further/f.edit:4: the old: text is not in src/lib.rt", "edits: 2 edits, 2 replacements, 1 wrong"])
 
+    def test_a_file_that_no_tool_tries(self):
+        self.edit(GOOD)
+        self.file("crates/c/must-fail/later/e.edit", GOOD)
+        status, lines = self.run_it("--text")
+        self.assertEqual((status, lines[:-1]), (1, ["crates/c/must-fail/later/e.edit: no tool tries this file: it is no .edit of must-fail/ or must-fail/further/"]))
+
     def test_other_folder(self):
         shutil.rmtree(os.path.join(self.folder, "crates"))
         done = subprocess.run([sys.executable, TOOL, self.folder], stdout=subprocess.PIPE, stderr=subprocess.PIPE, check=False)

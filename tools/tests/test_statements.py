@@ -90,8 +90,14 @@ class Documents(unittest.TestCase):
         self.wrong("docs/LIMITS.md:5: no c::part::too in the code")
 
     def test_a_module_in_a_sentence(self):
-        self.documents(limits="See `c::part`, and `f64::floor` of another crate.")
+        self.documents(limits="See `c::part`.")
         self.assertEqual(self.run_it()[0], 0)
+        self.documents(limits="See `d::part`.")
+        self.wrong("docs/LIMITS.md:5: no d::part in the code")
+
+    def test_an_edit_in_both_folders(self):
+        self.file("crates/c/must-fail/further/three.edit", "file: src/lib.rt\nold: 2\nnew: 4\n")
+        self.wrong("docs/PROMISES.md:5: the edit three of c is in must-fail/ and in further/")
 
     def test_an_edit_that_is_gone(self):
         self.documents(promise=PROMISE.replace("`three`", "`three`, `four`"))

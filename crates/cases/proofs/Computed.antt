@@ -75,4 +75,4 @@ start-before-its-span = refl
 
 pub sentences : Sentences
 unfolding spreads.placeGroup spreads.spread spreads.inside spreads.firstInside spreads.lastInside spreads.spreadBefore spreads.spreadAfter spreads.betweenTurn spreads.placeBetween even.evenOut even.evenTurn even.evenRun even.stretchOf even.endOf even.borrowed even.borrows even.ceilingOf even.grown even.grows even.lastCrushed even.withSwollen even.firstCrushed even.swollen even.crushed even.sum shares.share shares.sum partEdges onPart each fold up down jsMin jsMax under isNan add sub neg sum mul div lt le eq ofInt round size span climb units odd ofBits ofFields trailingZeros
-sentences = record { spread-over-the-span = refl; span-reversed = refl; last-end-kept = refl; start-before-its-span = start-before-its-span }
+sentences = record { spread-over-the-span = refl; span-reversed = refl; start-before-its-span = start-before-its-span; last-end-kept = refl }

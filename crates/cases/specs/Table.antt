@@ -70,9 +70,9 @@ pub record Sentences : Type 0 where
   pub span-reversed : placeGroup (1 ∷ 3 ∷ []) (double false 9 1) (double false 8 1)
       (edges (double false 2 1 ∷ double false 3 1 ∷ []) (double false 3 1 ∷ double false 4 1 ∷ []))
       ≡ edges (double false 9 1 ∷ double false 9 1 ∷ []) (double false 9 1 ∷ double false 9 1 ∷ [])
+  -- Evening and fitting: "A span under 0.04 s puts starts at its end minus 0.04, before its own start.": the span from 1 to 1.02 s.
+  pub start-before-its-span : insideSpan (times (double false 1 1) (double false 102 100)) (times (double false 1 1) (double false 101 100))
+      ≡ times (ofBits binary64 0x3fef_5c28_f5c2_8f5c) (ofBits binary64 0x3ff0_51eb_851e_b852)
   -- Shortcuts: "Ends clipped to the duration after evening: `to` never falls below the last end.": the limit is 0.5 s, and the word ends at 1.0625 s.
   pub last-end-kept : evenOut (4 ∷ []) (double false 1 2) (edges (double false 1 1 ∷ []) (double false 17 16 ∷ []))
       ≡ edges (double false 1 1 ∷ []) (double false 17 16 ∷ [])
-  -- Fitting: "A span under 0.04 s puts starts at its end minus 0.04, before its own start.": the span from 1 to 1.02 s.
-  pub start-before-its-span : insideSpan (times (double false 1 1) (double false 102 100)) (times (double false 1 1) (double false 101 100))
-      ≡ times (ofBits binary64 0x3fef_5c28_f5c2_8f5c) (ofBits binary64 0x3ff0_51eb_851e_b852)

@@ -23,7 +23,7 @@ use Rattle.word_calls.specs.Calls.{timedRule, Output, moved}
 
 -- ======== A word and the next one that share an edge.
 
--- ---- NO_LENGTH, 0.06 s: a shorter word is too short to be one.
+-- ---- NO_LENGTH, 0.06 s: a shorter word has no length.
 abbrev pub noLength : Float
 noLength = ofBits binary64 0x3fae_b851_eb85_1eb8
 
@@ -35,7 +35,7 @@ pairSpan = ofBits binary64 0x3fbe_b851_eb85_1eb8
 unfoldable pub nextStart : List Float → ℕ → NextStart
 nextStart starts i = cond (ltb (i + 1) (length starts)) (Starts (getD starts (i + 1) nan)) NoNext
 
--- ---- w.end - w.start < NO_LENGTH && let Some(n) = next && n.start - w.start < NO_LENGTH
+-- ---- w.end - w.start < NO_LENGTH && let Some(n) = next.as_deref_mut() && n.start - w.start < NO_LENGTH
 abbrev pub soon : NextStart → Times → Bool
 soon (Starts s) w = lt (s ⊖ w .start) noLength
 soon NoNext w = false
@@ -50,7 +50,8 @@ findTurn row k start = cond (loud row k) (out (jsMax start (frameSeconds k))) (o
 unfoldable pub pairStart : List Bool → Float → Float → Float
 pairStart row start nextEnd = range (findTurn row) (frameAt start) (frameAt nextEnd) start
 
--- ---- let share = own / (own + utf16_len(&n.text) as f64); js_to_fixed(w.start + (js_max(n.end, w.start + PAIR_SPAN) - w.start) * share, 3)
+-- ---- let own = utf16_len(&w.text) as f64; let share = own / (own + utf16_len(&n.text) as f64);
+-- let edge = js_to_fixed(w.start + (js_max(n.end, w.start + PAIR_SPAN) - w.start) * share, TIME_DECIMALS); the decimals are 3.
 unfoldable pub pairEdge : Float → Float → ℕ → ℕ → Float
 pairEdge start nextEnd own other =
     let share = num own ⊘ (num own ⊕ num other) in
@@ -59,6 +60,10 @@ pairEdge start nextEnd own other =
 -- ---- Two words that share an edge: where the first starts, and the edge.
 unfoldable pub pairOf : List Bool → Times → Float → ℕ → ℕ → Times
 pairOf row w nextEnd own other = let start = pairStart row (w .start) nextEnd in times start (pairEdge start nextEnd own other)
+
+-- ---- w.end = edge; n.start = edge;
+unfoldable pub setPair : Edges → ℕ → Times → Edges
+setPair es i t = edges (set (set (es .starts) i (t .start)) (i + 1) (t .end)) (set (es .ends) i (t .end))
 
 -- ======== Any other word: its end, by its sound.
 
@@ -90,7 +95,8 @@ unfoldable pub orDuration : NextStart → Float → Float
 orDuration (Starts s) duration = s
 orDuration NoNext duration = duration
 
--- ---- if w.end > sound_end + LOOSE || w.end - w.start < NO_LENGTH { w.end = js_max(w.start + NO_LENGTH, js_min(sound_end, limit)); }
+-- ---- if w.end > sound_end + LOOSE || w.end - w.start < NO_LENGTH
+-- { w.end = js_max(w.start + NO_LENGTH, js_min(sound_end, next_start.unwrap_or(duration))); }, where `limit` is that start or duration.
 unfoldable pub trimmed : SoundEnd → Float → Times → Times
 trimmed NoSound limit w = w
 trimmed (Ends sound) limit w =
@@ -103,10 +109,6 @@ endOf row duration next w =
     trimmed (soundEnd (lastLoud edgeQuiet row (frameAt (w .start)) bound)) (orDuration next duration) w
 
 -- ======== All words, and the call.
-
--- ---- w.end = edge; n.start = edge;
-unfoldable pub setPair : Edges → ℕ → Times → Edges
-setPair es i t = edges (set (set (es .starts) i (t .start)) (i + 1) (t .end)) (set (es .ends) i (t .end))
 
 -- ---- w is word i, and n is word i + 1, where there is one.
 unfoldable pub endTurn : List Bool → Float → List ℕ → ℕ → Edges → Edges

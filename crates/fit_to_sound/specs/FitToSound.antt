@@ -45,6 +45,10 @@ maxKeep = ofBits binary64 0x3fe0_0000_0000_0000
 abbrev pub loudRun : ℕ
 loudRun = 3
 
+-- ---- let loud_run = |k| (0..LOUD_RUN).all(|d| env.loud(k + d));
+unfoldable pub isLoudRun : List Bool → ℤ → Bool
+isLoudRun row k = loud row k && (loud row (k +ℤ pos 1) && loud row (k +ℤ pos 2))
+
 -- ---- 1. if i > 0 { words[i].start = js_max(words[i].start, words[i - 1].start + MIN_STEP); }
 unfoldable pub stepStart : List Float → ℕ → Float
 stepStart starts i = cond (ltb 0 i) (jsMax (getD starts i nan) (getD starts (i - 1) nan ⊕ minStep)) (getD starts i nan)
@@ -60,11 +64,7 @@ orderTurn duration i es = setTimes es i (inOrder duration (times (stepStart (es 
 unfoldable pub putInOrder : Float → Edges → Edges
 putInOrder duration es = each (orderTurn duration) (length (es .starts)) 0 es
 
--- ---- 2. let loud_run = |k| (0..LOUD_RUN).all(|d| env.loud(k + d));
-unfoldable pub isLoudRun : List Bool → ℤ → Bool
-isLoudRun row k = loud row k && (loud row (k +ℤ pos 1) && loud row (k +ℤ pos 2))
-
--- ---- next_start.map_or(frames - LOUD_RUN, |s| frame_from_zero(s - BEFORE_NEXT))
+-- ---- 2. next_start.map_or(frames - LOUD_RUN, |s| frame_from_zero(s - BEFORE_NEXT))
 unfoldable pub stopBefore : ℤ → NextStart → ℤ
 stopBefore frames (Starts s) = frameFromZero (s ⊖ beforeNext)
 stopBefore frames NoNext = frames -ℤ pos loudRun
@@ -169,7 +169,7 @@ settleEnds row duration letters es = each (endTurn row duration letters) (length
 
 -- ======== The steps in a row.
 
--- ---- fit_to_sound: .. even_out(words, f64::INFINITY)?; .. even_out(words, duration)
+-- ---- fit_to_sound: steps 1 to 3; 4. even_out(words, f64::INFINITY)?; steps 5 and 6; even_out(words, duration)
 unfoldable pub fitToSound : List Bool → Float → List ℕ → Edges → Edges
 fitToSound row duration letters es =
     let ordered = putInOrder duration es in

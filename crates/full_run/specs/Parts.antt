@@ -19,7 +19,7 @@ use Rattle.full_run.specs.declared.Answer.the-variants.{Accepted, Refuse
 
 -- ======== `rule`
 
--- ---- What applies, of so many samples and places.
+-- ---- What applies, by the number of samples and of places. 7 has no test: the run makes its own levels, samples / 160 of them.
 unfoldable pub appliesTo : ℕ → Words → Spans → ℕ → ℕ → ℕ → ℕ → Applies
 appliesTo samples ws spans phrases levels pieces work =
     also (also (ofWords ws) (also (ofSpans spans) (ofSamples samples)))

@@ -9,7 +9,7 @@ use Rattle.base.specs.declared.Refusal.the-variants.{Time, Letters, Lengths, Co
 use Rattle.base.specs.declared.Rule.{Rule}
 use Rattle.limits.specs.declared.Applies.{Applies}
 
--- ---- What applies where one test is made: its refusal, by its number, if the test says so; and no other.
+-- ---- What applies where one test is made: its refusal, by its number, if the test says so; and no other. (5 is the program's alone: it has no field.)
 unfoldable pub when : Bool → Refusal → Applies
 when b why =
     let is : ℕ → Bool = λ n. eqb (number why) n && b in
