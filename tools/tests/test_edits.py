@@ -154,6 +154,7 @@ class Logs(Tree):
             "`returns`: computed as far as they go, the two types are `a ≤ b`\n  (expected) and `b ≤ a` (found)",
             "`f-spec`: computed as far as they go, the two sides differ only where one has `a .count` (left) and the other has `0` (right), in 5 places",
             "`returns`: expected type `Reads.Post (c .args)`, but this has type `f x ≡ y`",
+            "`louder`: expected type `Prim.⊥`, but this has type `Scaled (pos t) reversed (fin s m e) (inf r)`",
             "`returns`: `omega`: the goal does not follow from what it read. All of that holds, and the goal fails, at `c .i` = 1",
             "`loop-again`: list the missing equation, or rewrite by `rw`\n  `cc` met a bound of its own before the equations had joined `f x`\n  to `g x`",
             "`end-is`: give a proof of that as the last argument\n  `rw` has no last argument, so what it leaves must be a path whose two ends are equal, and `Path Float a b`\n  is none",
