@@ -95,6 +95,13 @@ struct qiluvrait_heard qiluvrait_envelope(const float *samples, size_t samples_l
 /* Whether a floor is the one that these levels give, bit for bit (any NaN like any other). */
 bool qiluvrait_own_floor(const double *levels, size_t levels_len, double floor);
 
+/*
+ * An envelope: the levels of a recording, the floor under them and its sample count. They belong together,
+ * and each call that needs sound takes all three, `levels`, `floor` and `count`, of one recording;
+ * qiluvrait_own_floor tells whether floor and levels do belong together. (In Rattle `struct Envelope` holds
+ * the three, and each of these calls has a form over it, with the same promise.)
+ */
+
 /* What qiluvrait_pieces answers: the number of pieces; 0 where it refuses. */
 struct qiluvrait_cut {
     uint32_t refusal;

@@ -12,14 +12,9 @@ use lib.Ieee.{Float, nan, inf, fin, Format, prec, low, emax, lt, le, eq, neg, ro
 use lib.Ieee.Exact.{HasValue, odd-sign, round-exact}
 use lib.Ieee.Fits.{down-pos, reach}
 use lib.Ieee.Order.{round-mono}
+use Rattle.base.specs.Floats.{Most}
 use Rattle.base.proofs.Signs.{round-neg}
 use Rattle.base.proofs.Units.{pow-split}
-
--- ---- x has the sign s, and is at most n / d in size
-abbrev pub Most : Bool → ℕ → ℕ → Float → Type 0
-Most s n d nan = ⊥
-Most s n d (inf t) = ⊥
-Most s n d (fin t m e) = (t ≡ s) × (m * up e * d ≤ n * down e)
 
 at-most : (p q : ℕ) (z : Bool) → T (ltb p q || (eqb p q && z)) → p ≤ q
 at-most p q z h = go (ltb p q) refl (eqb p q) refl where

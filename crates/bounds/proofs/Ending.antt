@@ -16,7 +16,7 @@ use lib.Ieee.{Float, nan, inf, fin, binary64, up, down, round, ofBits, lt}
 use lib.Ieee.Fits.{down-pos}
 use Rattle.base.specs.Whole.{toNat, minZ}
 use Rattle.base.specs.Loop.{on, out}
-use Rattle.base.specs.Floats.{_⊕_, _⊖_, _⊗_, _⊘_, num}
+use Rattle.base.specs.Floats.{_⊕_, _⊖_, _⊗_, _⊘_, num, Most}
 use Rattle.base.specs.Words.{Edges, edges, times, timesAt, setTimes, edgeQuiet, loose}
 use Rattle.base.specs.declared.Times.{Times}
 use Rattle.base.specs.declared.NextStart.{NextStart}
@@ -24,24 +24,20 @@ use Rattle.base.specs.declared.NextStart.the-variants.{Starts, NoNext}
 use Rattle.base.specs.declared.SoundEnd.{SoundEnd}
 use Rattle.base.specs.declared.SoundEnd.the-variants.{Ends, NoSound}
 use Rattle.base.proofs.Loops.{Holds, run-holds, each-holds, each-keeps}
-use Rattle.base.proofs.Most.{Most, round-most, held}
+use Rattle.base.proofs.Most.{round-most, held}
 use Rattle.base.proofs.Values.{whole-int, add-whole, div-whole}
 use Rattle.js.specs.Js.{jsMin, jsMax, nearestUp, jsToFixed}
 use Rattle.js.proofs.ToFixed.{nearestUp-bounds}
 use Rattle.frames.specs.Frames.{frameAt, frameSeconds}
 use Rattle.envelope.specs.Envelope.{loud}
-use Rattle.word_calls.proofs.Within.{AllFrom}
+use Rattle.word_calls.specs.Within.{AllFrom}
 use Rattle.ends.specs.Ends.{Last, lastTurn, lastLoud, soundEnd, noLength, pairSpan, nextStart, isPair, findTurn, pairStart, pairEdge, pairOf, reach, orDuration, trimmed, endOf, endTurn, snapEnds, setPair}
 use Rattle.ends.proofs.OneWord.{pair-in}
-use Rattle.bounds.specs.Bounds.{Under, EdgesUnder}
+use Rattle.bounds.specs.Bounds.{Under, EdgesUnder, growth, AllUnder, hour}
 use Rattle.bounds.proofs.Rounding.{under-more, round-under, add-under, max-under, min-under}
 use Rattle.bounds.proofs.Seconds.{hour-under}
 use Rattle.bounds.proofs.PartWay.{part-way}
-use Rattle.bounds.proofs.Stored.{AllUnder, set-under, loud-in}
-
--- ---- how many sixty-fourths a turn can add: 8 for 0.12 s, 1 for the way there, 1 for the thousandths
-abbrev pub growth : ℕ
-growth = 10
+use Rattle.bounds.proofs.Stored.{set-under, loud-in}
 
 -- ---- the constants: 0.12 s is at most 8 sixty-fourths, 0.06 s at most 4
 span-under : Under 8 pairSpan
@@ -96,7 +92,7 @@ edge-under b start nextEnd own other B h k l m n =
     last-under : Under (b + 8) last
     last-under = max-under 64 (b + 8) nextEnd (start ⊕ pairSpan) (wider nextEnd k) (add-under 6 (lit≤ tt) b 8 start pairSpan (omega arith) h span-under)
 
-module _ (row : List Bool) (b : ℕ) (short : length row ≤ 360000) (large : 230400 ≤ b) (B : b < 2 ^ 40) where
+module _ (row : List Bool) (b : ℕ) (short : length row ≤ 360000) (large : hour ≤ b) (B : b < 2 ^ 40) where
   find-turn : (k : ℤ) (s : Float) → Unit {0} → Under b s → Holds (Under b) (findTurn row k s)
   find-turn k s u h = go (loud row k) refl
     where
@@ -272,7 +268,7 @@ record Before (b n i : ℕ) (es : Edges) : Type 0 where
   ends-long : length (es .ends) ≡ n
   small : EdgesUnder (b + growth * i) es
 
-pub ends-under : (row : List Bool) (b : ℕ) (duration : Float) (units : List ℕ) (es : Edges) → length row ≤ 360000 → 230400 ≤ b → b + growth * length (es .starts) < 2 ^ 40 → Under b duration
+pub ends-under : (row : List Bool) (b : ℕ) (duration : Float) (units : List ℕ) (es : Edges) → length row ≤ 360000 → hour ≤ b → b + growth * length (es .starts) < 2 ^ 40 → Under b duration
     → AllFrom 1 10000 units → length (es .ends) ≡ length (es .starts) → length units ≡ length (es .starts) → EdgesUnder b es → EdgesUnder (b + growth * length (es .starts)) (snapEnds row duration units es)
 unfolding snapEnds
 ends-under row b duration units es short large B d us same as-long u =

@@ -18,17 +18,17 @@ use Rattle.base.proofs.Loops.{each-holds, down-le, up-ge, up-le}
 use Rattle.base.proofs.Parts.{long, onPart-long}
 use Rattle.base.proofs.Values.{fraction, whole-int, mul-fraction}
 use Rattle.js.specs.Js.{under, jsMin, jsMax}
-use Rattle.word_calls.proofs.Within.{AllFrom}
+use Rattle.word_calls.specs.Within.{AllFrom}
 use Rattle.share.specs.Share as shares
 use Rattle.share.proofs.Sums.{sum-between}
 use Rattle.share.proofs.Long.{share-long}
-use Rattle.share.proofs.Steps.{farthest}
 use Rattle.even.specs.Even.{slowLetter, slowWord, sum, crushed, swollen, firstCrushed, withSwollen, lastCrushed, grows, grown, ceilingOf, borrows, borrowed, endOf, stretchOf, evenRun, Evening, evenTurn, evenOut}
 use Rattle.even.specs.declared.stretch.Stretch.{Stretch}
-use Rattle.bounds.specs.Bounds.{UnderIn}
+use Rattle.bounds.specs.Bounds.{UnderIn, steps, stray, slowest, Timed, Limit}
+use Rattle.share.specs.Drifts.{farthest}
 use Rattle.bounds.proofs.Rounding.{under-more, under-coarser, under-number, round-under, add-under}
 use Rattle.bounds.proofs.Parted.{each-part, part-same, part-few, onPart-under, edges-more}
-use Rattle.bounds.proofs.Sharing.{steps, stray, Timed, timed-more, difference-under}
+use Rattle.bounds.proofs.Sharing.{timed-more, difference-under}
 use Rattle.bounds.proofs.Sides.{Side, under-side, min-side, clamp-under}
 
 -- ---- a constant times a whole number
@@ -46,16 +46,8 @@ word-value : HasValue slowWord false 0x19_9999_9999_999a (2 ^ 56)
 unfolding ofBits
 word-value = (refl, refl)
 
--- ---- a word's slow pace: 120 s at most
-abbrev pub slowest : ℕ
-slowest = 120 * steps
-
 pace-under : (n : ℕ) → n ≤ 1000 → UnderIn steps slowest (slowLetter ⊗ num n)
 pace-under n h = scaled-under 40 (lit≤ tt) slowLetter 0x1e_b851_eb85_1eb8 (2 ^ 56) n slowest letter-value (lit< tt) (omega arith) (lit< tt) (omega arith)
-
--- ---- a limit, for words within b: none, and `top` is a slow pace; or one within b + top
-abbrev pub Limit : ℕ → ℕ → Float → Type 0
-Limit b top limit = ((limit ≡ inf false) × (slowest ≤ top)) ⊎ UnderIn steps (b + top) limit
 
 min-none : (y : Float) → jsMin (inf false) y ≡ y
 unfolding jsMin under lt eq isNan

@@ -16,7 +16,7 @@ use lib.Ieee.{Float, nan, inf, fin, binary64, up, down, round, sum, add, sub, ne
 use lib.Ieee.Fits.{down-pos}
 use Rattle.base.specs.Whole.{toNat, minZ, maxZ}
 use Rattle.base.specs.Loop.{on, out}
-use Rattle.base.specs.Floats.{_⊕_, _⊖_, _⊗_, num}
+use Rattle.base.specs.Floats.{_⊕_, _⊖_, _⊗_, num, Most}
 use Rattle.base.specs.Words.{Edges, times, timesAt, setTimes, loose, endSilence}
 use Rattle.base.specs.declared.Times.{Times}
 use Rattle.base.specs.declared.NextStart.{NextStart}
@@ -24,27 +24,22 @@ use Rattle.base.specs.declared.NextStart.the-variants.{Starts, NoNext}
 use Rattle.base.specs.declared.SoundEnd.{SoundEnd}
 use Rattle.base.specs.declared.SoundEnd.the-variants.{Ends, NoSound}
 use Rattle.base.proofs.Loops.{Holds, run-holds, each-holds, ltZ-nat, sub-nat}
-use Rattle.base.proofs.Most.{Most}
 use Rattle.js.specs.Js.{jsMin, jsMax}
 use Rattle.frames.specs.Frames.{frameAt, frameFromZero, frameSeconds}
 use Rattle.envelope.specs.Envelope.{loud}
-use Rattle.word_calls.proofs.Within.{AllFrom}
-use Rattle.share.proofs.Steps.{farthest}
+use Rattle.word_calls.specs.Within.{AllFrom}
 use Rattle.ends.specs.Ends.{lastLoud, soundEnd, nextStart, orDuration}
 use Rattle.even.specs.Even.{evenOut}
 use Rattle.fit_to_sound.specs.FitToSound.{minStep, searchAhead, maxKeep, loudRun, stepStart, inOrder, orderTurn, putInOrder, isLoudRun, stopBefore, stopAt, riseTurn, riseFrame, movedTo, riseOf, riseTurnOf, moveToRise, clipped, clipTurn, clip, maxNeed, letterTime, soundEndIn, quietRun, cutBack, lastsTo, endedBy, endOf, endTurn, settleEnds, fitToSound}
-use Rattle.bounds.specs.Bounds.{UnderIn}
+use Rattle.bounds.specs.Bounds.{UnderIn, steps, stray, slowest, apart, drift, Timed, TimesUnder}
+use Rattle.share.specs.Drifts.{farthest}
 use Rattle.bounds.proofs.Rounding.{under-more, under-finer, under-number, round-signed, round-under, add-under, max-under, min-under}
 use Rattle.bounds.proofs.Seconds.{hour-under}
 use Rattle.bounds.proofs.Stored.{set-under}
 use Rattle.bounds.proofs.Sides.{Side, under-side, side-more, min-side, above-under}
 use Rattle.bounds.proofs.Ending.{SoundUnder, last-heard, sound-under}
-use Rattle.bounds.proofs.Sharing.{steps, stray, Timed, timed-more}
-use Rattle.bounds.proofs.Evening.{slowest, coarse, even-under}
-
--- ---- 0.02 s, in parts of 2^-40 s
-abbrev pub apart : ℕ
-apart = 21990232556
+use Rattle.bounds.proofs.Sharing.{timed-more}
+use Rattle.bounds.proofs.Evening.{coarse, even-under}
 
 step-under : UnderIn steps apart minStep
 unfolding ofBits
@@ -62,10 +57,6 @@ keep-whole = lit≤ tt
 -- ---- the time of a frame of an hour
 pub frame-under : (c : ℕ) (k : ℤ) → 3600 * steps ≤ c → natAbs k ≤ 360000 → UnderIn steps c (frameSeconds k)
 frame-under c k l h = under-more steps (3600 * steps) c (frameSeconds k) l (under-finer 64 (2 ^ 34) 230400 (frameSeconds k) (hour-under 230400 k (le-refl 230400) h))
-
--- ---- both times of a word
-abbrev pub TimesUnder : ℕ → Times → Type 0
-TimesUnder c w = UnderIn steps c (w .start) × UnderIn steps c (w .end)
 
 either : (c : ℕ) (t : Bool) (v w : Times) → (t ≡ true → TimesUnder c v) → (t ≡ false → TimesUnder c w) → TimesUnder c (cond t v w)
 either c true v w h k = h refl
@@ -361,10 +352,6 @@ module _ (row : List Bool) (short : length row ≤ 360000) (c : ℕ) (large : 36
       set-timed n c i s (endOf row duration next (getD letters i 0) w) p
       (ended-under next (getD letters i 0) (soundEndIn row (w .start) (orDuration next duration)) w (next-in n i s p) (sound-in (w .start) (orDuration next duration)) (at-timed n c i s l p)))
       (length (es .starts)) 0 es (omega (arith, t .starts-long)) t
-
--- ---- all of it: so much for each word, and a slow pace once
-abbrev pub drift : ℕ
-drift = apart + 2 * stray
 
 module _ (letters : List ℕ) (ls : AllFrom 1 1000 letters) (few : length letters ≤ 4096) (row : List Bool) (short : length row ≤ 360000) (duration : Float) (b : ℕ) (large : 3601 * steps ≤ b)
     (wide : b + 2 * slowest + drift * length letters ≤ farthest) (d : UnderIn steps b duration) where

@@ -12,16 +12,17 @@ use lib.ListN.{length, getD}
 use lib.Ieee.{Float, nan, inf, fin, binary64, isNan, fits, ofBits, ofFields, toBits}
 use lib.Ieee.Bits.{ofBits-toBits, toBits-lt, toBits-ofBits}
 use Rattle.base.specs.Words.{Words, Spans, edges}
-use Rattle.limits.specs.declared.Answer.the-variants.{Accepted}
-use Rattle.envelope.specs.Envelope.{levels, floor, loudRow}
+use Rattle.base.specs.Refusals.{accepts}
+use Rattle.limits.specs.Order.{says}
+use Rattle.envelope.specs.Envelope.{loudRow}
 use Rattle.fit_file.specs.FitFile.{durationOf, fitFileCall}
 use Rattle.fit_file.proofs.Calls as file
-use Rattle.full_run.specs.FullRun.{Input, fullRun}
+use Rattle.full_run.specs.FullRun.{Input, says as runSays, fullRun}
 use Rattle.full_run.specs.declared.Report.{Report}
-use Rattle.full_run.specs.declared.Answer.the-variants.{Accepted as RunAccepted}
 use Rattle.full_run.proofs.Promises.{accepted-answer}
 use Rattle.invariance.specs.Scaled.{Recorded, Loudest}
-use Rattle.invariance.specs.Alike.{Word, wordAt, GivenAlike}
+use Rattle.invariance.specs.Alike.{Own, Word, wordAt, GivenAlike}
+use Rattle.invariance.specs.SameRun.{AlikeRuns}
 use Rattle.invariance.proofs.Demand3.{full-run, fit-by-phrase, fit-by-phrase-same}
 use Rattle.bounds.specs.Bounds.{Small, SmallTimes}
 use Rattle.bounds.specs.Bits.{Stores, SameBits}
@@ -59,13 +60,12 @@ same-bits : {x y : Float} → Small x → Small y → x ≡ y → SameBits x y
 same-bits {x} {y} h k e = record { pattern = ap (toBits binary64) e; first-only = one-pattern x h; second-only = one-pattern y k }
 
 -- ---- Full run: every start and every end in every word's place has the same bits.
-pub full-run-bits : (k : ℤ) (reversed : Bool) (a b : Input) → Recorded k reversed (a .samples) (b .samples) → Loudest (a .samples) (b .samples)
-    → a .words ≡ b .words → a .spans ≡ b .spans → a .phrases ≡ b .phrases
-    → (r r′ : Report) → fullRun a .answer ≡ RunAccepted r → fullRun b .answer ≡ RunAccepted r′
+pub full-run-bits : (k : ℤ) (reversed : Bool) (a b : Input) → Recorded k reversed (a .samples) (b .samples) → Loudest (a .samples) (b .samples) → AlikeRuns a b
+    → (r r′ : Report) → runSays (fullRun a .answer) ≡ accepts r → runSays (fullRun b .answer) ≡ accepts r′
     → ((i : ℕ) → i < length (fullRun a .words .starts) → SameBits (getD (fullRun a .words .starts) i nan) (getD (fullRun b .words .starts) i nan))
     × ((i : ℕ) → i < length (fullRun a .words .ends) → SameBits (getD (fullRun a .words .ends) i nan) (getD (fullRun b .words .ends) i nan))
-full-run-bits k reversed a b recorded loudest words spans phrases r r′ h h′ =
-    let e : fullRun a .words ≡ fullRun b .words = full-run k reversed a b recorded loudest words spans phrases r r′ h h′ .word-places in
+full-run-bits k reversed a b recorded loudest alike r r′ h h′ =
+    let e : fullRun a .words ≡ fullRun b .words = full-run k reversed a b recorded loudest alike r r′ h h′ .word-places in
     let s : SmallTimes (fullRun a .words) = full-run-small a (accepted-answer a .0 (r, h)) in
     let s′ : SmallTimes (fullRun b .words) = full-run-small b (accepted-answer b .0 (r′, h′)) in (
       λ i l. same-bits (s .starts i l) (s′ .starts i (subst (λ (ws : Words). i < length (ws .starts)) e l)) (ap (λ (ws : Words). getD (ws .starts) i nan) e),
@@ -73,7 +73,7 @@ full-run-bits k reversed a b recorded loudest words spans phrases r r′ h h′ 
     )
 
 -- ---- a place with a phrase number is one of the words' that an accepted fit by phrase leaves
-module _ (ws : Words) (phrases : List ℕ) (spans : Spans) (ls : List Float) (f : Float) (samples places : ℕ) (h : fitFileCall ws phrases spans ls f samples places .answer ≡ Accepted) where
+module _ (ws : Words) (phrases : List ℕ) (spans : Spans) (ls : List Float) (f : Float) (samples places : ℕ) (h : says (fitFileCall ws phrases spans ls f samples places .answer) ≡ accepts tt) where
   abbrev out : Words
   out = fitFileCall ws phrases spans ls f samples places .words
 
@@ -100,22 +100,23 @@ times-bits a b i w s s′ = (same-bits (s .0) (s′ .0) (ap (λ (x : Word). x .s
 
 -- ---- Fit by phrase: both times of each word of a phrase that is given alike have the same bits.
 pub fit-by-phrase-bits : (k : ℤ) (reversed : Bool) (xs ys : List Float) → Recorded k reversed xs ys → Loudest xs ys
+    → (ls ls′ : List Float) (f f′ : Float) (count count′ : ℕ) → Own xs ls f count → Own ys ls′ f′ count′
     → (phrases : List ℕ) (p : ℕ) (ws ws′ : Words) (spans spans′ : Spans) (places places′ : ℕ) → GivenAlike phrases p ws ws′ spans spans′
-    → (h : fitFileCall ws phrases spans (levels xs) (floor (levels xs)) (length xs) places .answer ≡ Accepted)
-    → (h′ : fitFileCall ws′ phrases spans′ (levels ys) (floor (levels ys)) (length ys) places′ .answer ≡ Accepted)
+    → (h : says (fitFileCall ws phrases spans ls f count places .answer) ≡ accepts tt)
+    → (h′ : says (fitFileCall ws′ phrases spans′ ls′ f′ count′ places′ .answer) ≡ accepts tt)
     → (i : ℕ) → i < length phrases → getD phrases i 0 ≡ p
-    → SameBits (getD (fitFileCall ws phrases spans (levels xs) (floor (levels xs)) (length xs) places .words .starts) i nan)
-    (getD (fitFileCall ws′ phrases spans′ (levels ys) (floor (levels ys)) (length ys) places′ .words .starts) i nan)
-    × SameBits (getD (fitFileCall ws phrases spans (levels xs) (floor (levels xs)) (length xs) places .words .ends) i nan)
-    (getD (fitFileCall ws′ phrases spans′ (levels ys) (floor (levels ys)) (length ys) places′ .words .ends) i nan)
-fit-by-phrase-bits k reversed xs ys recorded loudest phrases p ws ws′ spans spans′ places places′ alike h h′ i l e =
-    times-bits _ _ i (fit-by-phrase k reversed xs ys recorded loudest phrases p ws ws′ spans spans′ places places′ alike h h′ i l e)
-    (out-small ws phrases spans (levels xs) (floor (levels xs)) (length xs) places h i l) (out-small ws′ phrases spans′ (levels ys) (floor (levels ys)) (length ys) places′ h′ i l)
+    → SameBits (getD (fitFileCall ws phrases spans ls f count places .words .starts) i nan)
+    (getD (fitFileCall ws′ phrases spans′ ls′ f′ count′ places′ .words .starts) i nan)
+    × SameBits (getD (fitFileCall ws phrases spans ls f count places .words .ends) i nan)
+    (getD (fitFileCall ws′ phrases spans′ ls′ f′ count′ places′ .words .ends) i nan)
+fit-by-phrase-bits k reversed xs ys recorded loudest ls ls′ f f′ count count′ own own′ phrases p ws ws′ spans spans′ places places′ alike h h′ i l e =
+    times-bits _ _ i (fit-by-phrase k reversed xs ys recorded loudest ls ls′ f f′ count count′ own own′ phrases p ws ws′ spans spans′ places places′ alike h h′ i l e)
+    (out-small ws phrases spans ls f count places h i l) (out-small ws′ phrases spans′ ls′ f′ count′ places′ h′ i l)
 
 -- ---- And on one recording, whatever it holds.
 pub fit-by-phrase-same-bits : (ls : List Float) (f : Float) (samples : ℕ)
     → (phrases : List ℕ) (p : ℕ) (ws ws′ : Words) (spans spans′ : Spans) (places places′ : ℕ) → GivenAlike phrases p ws ws′ spans spans′
-    → (h : fitFileCall ws phrases spans ls f samples places .answer ≡ Accepted) → (h′ : fitFileCall ws′ phrases spans′ ls f samples places′ .answer ≡ Accepted)
+    → (h : says (fitFileCall ws phrases spans ls f samples places .answer) ≡ accepts tt) → (h′ : says (fitFileCall ws′ phrases spans′ ls f samples places′ .answer) ≡ accepts tt)
     → (i : ℕ) → i < length phrases → getD phrases i 0 ≡ p
     → SameBits (getD (fitFileCall ws phrases spans ls f samples places .words .starts) i nan) (getD (fitFileCall ws′ phrases spans′ ls f samples places′ .words .starts) i nan)
     × SameBits (getD (fitFileCall ws phrases spans ls f samples places .words .ends) i nan) (getD (fitFileCall ws′ phrases spans′ ls f samples places′ .words .ends) i nan)

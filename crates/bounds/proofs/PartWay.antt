@@ -10,8 +10,7 @@ use lib.IntN.{ℤ}
 use lib.Dec.{ltb, lit≤}
 use lib.Ieee.{Float, nan, inf, fin, binary64, up, down, unlike, round, sum, add, neg, sub, mul}
 use lib.Ieee.Fits.{down-pos}
-use Rattle.base.specs.Floats.{_⊕_, _⊖_, _⊗_}
-use Rattle.base.proofs.Most.{Most}
+use Rattle.base.specs.Floats.{_⊕_, _⊖_, _⊗_, Most}
 use Rattle.bounds.specs.Bounds.{Under}
 use Rattle.bounds.proofs.Rounding.{round-signed, sum-like, sum-unlike}
 

@@ -24,8 +24,7 @@ use Rattle.base.proofs.Parts.{long, both}
 use Rattle.js.specs.Js.{jsMin, jsMax}
 use Rattle.frames.specs.Frames.{frameFromZero}
 use Rattle.envelope.specs.Envelope.{loud}
-use Rattle.word_calls.proofs.Within.{AllFrom}
-use Rattle.share.proofs.Steps.{farthest}
+use Rattle.word_calls.specs.Within.{AllFrom}
 use Rattle.even.specs.Even.{evenOut}
 use Rattle.last_run.specs.LastRun as runs
 use Rattle.last_run.specs.LastRun.{minRun, backTurn, endsBetween, framesOf, frameRun, secondsOf, lastRun}
@@ -35,18 +34,16 @@ use Rattle.last_run.specs.declared.Run.the-variants.{Sound, Nothing}
 use Rattle.fit_to_sound.specs.FitToSound.{fitToSound}
 use Rattle.fit_file.specs.FitFile.{minWord, trailingGap, insideSpan, insideTurn, keepInside, makeWay, takeSound, takeRun, takeTrailing, fitGroup, memberTurn, membersOf, picked, pickedEdges, putEdges, fitPhrase, fitFile}
 use Rattle.fit_file.proofs.Members.{turn-hit, turn-miss, members-next}
-use Rattle.fit_file.proofs.Local.{AllOf, In, members-all, member-in, put-long, picked-at, picked-long}
+use Rattle.fit_file.proofs.Local.{In, members-all, member-in, put-long, picked-at, picked-long}
 use Rattle.invariance.proofs.Alone.{fitAlone, phrase-alone, spanless-stays}
-use Rattle.bounds.specs.Bounds.{UnderIn}
+use Rattle.bounds.specs.Bounds.{UnderIn, steps, stray, slowest, drift, shortest, haul, Timed, TimesUnder}
+use Rattle.share.specs.Drifts.{farthest}
+use Rattle.fit_file.specs.Parts.{AllOf}
 use Rattle.bounds.proofs.Rounding.{under-more, add-under, max-under, min-under}
 use Rattle.bounds.proofs.Stored.{set-under, loud-in}
-use Rattle.bounds.proofs.Sharing.{steps, stray, Timed, timed-more}
-use Rattle.bounds.proofs.Evening.{slowest, even-under}
-use Rattle.bounds.proofs.Fitting.{drift, TimesUnder, at-timed, set-timed, frame-under, sub-under, fit-under}
-
--- ---- 0.04 s, in parts of 2^-40 s
-abbrev pub shortest : ℕ
-shortest = 43980465112
+use Rattle.bounds.proofs.Sharing.{timed-more}
+use Rattle.bounds.proofs.Evening.{even-under}
+use Rattle.bounds.proofs.Fitting.{at-timed, set-timed, frame-under, sub-under, fit-under}
 
 word-under : UnderIn steps shortest minWord
 unfolding ofBits
@@ -199,10 +196,6 @@ module _ (row : List Bool) (short : length row ≤ 360000) (c : ℕ) (large : 36
           sound : (b : Bool) → Timed n c (cond b (takeSound last (times start end) es) es)
           sound true = take-under n last (times start end) es u t
           sound false = t
-
--- ---- a phrase: so much for each word, a slow pace once, and 0.04 s once
-abbrev pub haul : ℕ
-haul = drift + stray
 
 module _ (letters : List ℕ) (ls : AllFrom 1 1000 letters) (few : length letters ≤ 4096) (row : List Bool) (short : length row ≤ 360000) (duration : Float) (span : Times) (b : ℕ) (large : 3601 * steps ≤ b)
     (wide : b + 2 * slowest + haul * length letters + shortest ≤ farthest) (d : UnderIn steps b duration) (s : TimesUnder b span) where

@@ -18,16 +18,16 @@ use Rattle.base.specs.declared.Times.{Times}
 use Rattle.base.proofs.Loops.{each-holds, each-done, down-le, down-seen, up-le, up-found}
 use Rattle.base.proofs.Parts.{long, onPart-after}
 use Rattle.js.specs.Js.{jsMax}
-use Rattle.word_calls.proofs.Within.{AllFrom}
-use Rattle.share.proofs.Steps.{farthest}
+use Rattle.word_calls.specs.Within.{AllFrom}
 use Rattle.spread.specs.Spread.{inside, outsideAt, firstInside, lastInside, spread, spreadBefore, spreadAfter, betweenTurn, placeBetween, placeGroup}
 use Rattle.phrase_align.specs.PhraseAlign.{Placing, groupOf, extend, placedIn, placeTurn, alignPhrases}
 use Rattle.spread.proofs.Long.{spread-long, before-long, after-long}
-use Rattle.bounds.specs.Bounds.{UnderIn, EdgesUnderIn}
+use Rattle.bounds.specs.Bounds.{UnderIn, EdgesUnderIn, steps, stray, AllUnder, Timed}
+use Rattle.share.specs.Drifts.{farthest}
 use Rattle.bounds.proofs.Rounding.{max-under}
-use Rattle.bounds.proofs.Stored.{AllUnder, set-under}
+use Rattle.bounds.proofs.Stored.{set-under}
 use Rattle.bounds.proofs.Parted.{each-append, each-part, part-same, part-few, onPart-under, edges-more}
-use Rattle.bounds.proofs.Sharing.{steps, stray, Timed, forward-under}
+use Rattle.bounds.proofs.Sharing.{forward-under}
 
 -- ---- the first and the last word inside, where there is one
 module _ (from to : Float) (es : Edges) where

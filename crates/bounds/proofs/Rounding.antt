@@ -9,8 +9,8 @@ use lib.Dec.{ltb}
 use lib.Pow.{pow-pos}
 use lib.Ieee.{Float, nan, inf, fin, binary64, up, down, round, sum, add, isNan}
 use lib.Ieee.Fits.{down-pos}
-use Rattle.base.specs.Floats.{_⊕_}
-use Rattle.base.proofs.Most.{Most, round-most, held}
+use Rattle.base.specs.Floats.{_⊕_, Most}
+use Rattle.base.proofs.Most.{round-most, held}
 use Rattle.js.specs.Js.{under, jsMin, jsMax}
 use Rattle.bounds.specs.Bounds.{UnderIn}
 

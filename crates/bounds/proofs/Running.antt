@@ -11,7 +11,7 @@ use lib.Seq.{length-take-le}
 use lib.Ieee.{Float, nan}
 use Rattle.base.specs.Words.{Words, Spans, Edges, edges, withEdges, count, wordsInPlaces}
 use Rattle.base.specs.Parts.{OneLength}
-use Rattle.word_calls.proofs.Within.{AllFrom, WordsWithin, SpansWithin}
+use Rattle.word_calls.specs.Within.{AllFrom, WordsWithin, SpansWithin}
 use Rattle.envelope.specs.Envelope.{levels, floor, loudRow, quietRow}
 use Rattle.envelope.proofs.Places.{length-levels}
 use Rattle.loops.specs.Loops.{collapseLoops}
@@ -21,21 +21,15 @@ use Rattle.phrase_align.proofs.Facts.{After, placed-after}
 use Rattle.fit_to_sound.specs.FitToSound.{fitToSound}
 use Rattle.fit_file.specs.FitFile.{fitFile, durationOf}
 use Rattle.run_stages.specs.Stages.{snapped, byPhrase, asOne, settled, runOn}
-use Rattle.full_run.specs.FullRun.{Input, runOf, Output, fullRun}
-use Rattle.full_run.proofs.Promises.{RunWithin, accepted-exactly}
-use Rattle.bounds.specs.Bounds.{SmallTimes, UnderIn}
+use Rattle.full_run.specs.FullRun.{Input, runOf, Output, fullRun, RunWithin}
+use Rattle.full_run.proofs.Promises.{accepted-leaves}
+use Rattle.bounds.specs.Bounds.{SmallTimes, UnderIn, steps, stray, slowest, drift, shortest, haul, settling, Timed, inRow}
 use Rattle.bounds.proofs.Rounding.{under-more, under-finer}
 use Rattle.bounds.proofs.Parted.{each-take}
-use Rattle.bounds.proofs.Sharing.{steps, stray, Timed}
 use Rattle.bounds.proofs.Placing.{align-under}
-use Rattle.bounds.proofs.Evening.{slowest}
-use Rattle.bounds.proofs.Fitting.{drift, fit-under}
-use Rattle.bounds.proofs.Phrasing.{shortest, haul, file-under}
-use Rattle.bounds.proofs.Small.{edges-small, within-under, places-small, hour-long, lasts-under, hour-lasts, inRow, stages-under, stages-long}
-
--- ---- 501,761 sixty-fourths, in parts of 2^-40 s
-abbrev settling : ℕ
-settling = 501761 * 2 ^ 34
+use Rattle.bounds.proofs.Fitting.{fit-under}
+use Rattle.bounds.proofs.Phrasing.{file-under}
+use Rattle.bounds.proofs.Small.{edges-small, within-under, places-small, hour-long, lasts-under, hour-lasts, stages-under, stages-long}
 
 -- ---- On any levels, as many as samples / 160, and any floor.
 module _ (ls : List Float) (f : Float) (samples : ℕ) (ws : Words) (sp : Spans) (phrases : List ℕ) (ww : WordsWithin ws) (sw : SpansWithin sp) (most : samples ≤ 57600000)
@@ -50,7 +44,7 @@ module _ (ls : List Float) (f : Float) (samples : ℕ) (ws : Words) (sp : Spans)
   left = collapseLoops ws .words
 
   abbrev es : Edges
-  es = inRow left ls f samples duration
+  es = inRow left ls f duration
 
   abbrev after : Words
   after = withEdges es left
@@ -172,7 +166,7 @@ module _ (i : Input) (w : RunWithin i) where
   pub full-run-small : SmallTimes (fullRun i .words)
   unfolding wordsInPlaces
   full-run-small =
-      subst SmallTimes (sym (ap (λ (o : Output). o .words) (accepted-exactly i .0 w))) (record {
+      subst SmallTimes (sym (ap (λ (o : Output). o .words) (accepted-leaves i w))) (record {
         starts = places-small (count (i .words)) (runOf i .words .starts) (small .starts);
         ends = places-small (count (i .words)) (runOf i .words .ends) (small .ends);
       })

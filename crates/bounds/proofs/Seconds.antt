@@ -10,9 +10,10 @@ use lib.IntN.{ℤ, pos, negsuc, negℤ, natAbs}
 use lib.Dec.{ltb, lit<, lit≤}
 use lib.Ieee.{Float, nan, inf, fin, binary64, up, down, unlike, round, mul, div, ofBits, ofInt}
 use lib.Ieee.Fits.{down-pos}
-use Rattle.base.proofs.Most.{Most, round-most, held}
+use Rattle.base.proofs.Most.{round-most, held}
 use Rattle.frames.specs.Frames.{rate, hop, inFrames, saturate, floorI64, frameAt, frameSeconds}
-use Rattle.bounds.specs.Bounds.{Under}
+use Rattle.bounds.specs.Bounds.{Under, hour}
+use Rattle.base.specs.Floats.{Most}
 use Rattle.bounds.proofs.Rounding.{under-more, round-under}
 
 -- ---- the time of a frame
@@ -46,8 +47,8 @@ seconds-under b (pos n) B l = plus-under b (n * 160) B (omega arith)
 seconds-under b (negsuc n) B l = minus-under b (suc n * 160) B (omega arith)
 
 -- ---- a frame of an hour has a time of at most an hour
-pub hour-under : (b : ℕ) (k : ℤ) → 230400 ≤ b → natAbs k ≤ 360000 → Under b (frameSeconds k)
-hour-under b k l h = under-more 64 230400 b (frameSeconds k) l (seconds-under 230400 k (lit< tt) (omega arith))
+pub hour-under : (b : ℕ) (k : ℤ) → hour ≤ b → natAbs k ≤ 360000 → Under b (frameSeconds k)
+hour-under b k l h = under-more 64 hour b (frameSeconds k) l (seconds-under hour k (lit< tt) (omega arith))
 
 -- ---- the frame of a time
 module _ (b : ℕ) (B : b < 2 ^ 40) where

@@ -7,34 +7,20 @@ use mathlib.Core.Path.{_≡_, refl, sym, ap, subst}
 use native.Mathlib.Omega.{arith}
 use lib.ListN.{length}
 use lib.Ieee.{Float, nan, inf, fin}
-use Rattle.base.specs.Floats.{_⊖_, num}
+use Rattle.base.specs.Floats.{_⊖_, num, Most}
 use Rattle.base.specs.Words.{Edges, zeroF}
 use Rattle.base.proofs.Parts.{long}
-use Rattle.base.proofs.Most.{Most}
 use Rattle.js.specs.Js.{negative, jsMax}
-use Rattle.word_calls.proofs.Within.{AllFrom}
+use Rattle.word_calls.specs.Within.{AllFrom}
 use Rattle.share.specs.Share.{sum, share, boundary}
 use Rattle.share.proofs.Sums.{sum-between}
 use Rattle.share.proofs.Long.{share-long}
-use Rattle.share.proofs.Steps.{farthest}
 use Rattle.share.proofs.Boundaries.{share-starts, share-ends}
 use Rattle.share.proofs.Between.{between, between-forward}
-use Rattle.bounds.specs.Bounds.{UnderIn, EdgesUnderIn}
+use Rattle.bounds.specs.Bounds.{UnderIn, EdgesUnderIn, steps, stray, Timed}
+use Rattle.share.specs.Drifts.{farthest}
 use Rattle.bounds.proofs.Rounding.{under-more, most-under}
 use Rattle.bounds.proofs.Parted.{edges-more}
-
--- ---- the steps of a second, 2^-40 s each, and how many of them a share-out may add
-abbrev pub steps : ℕ
-steps = 2 ^ 40
-
-abbrev pub stray : ℕ
-stray = 4104
-
--- ---- n words, each within c
-pub record Timed (n c : ℕ) (es : Edges) : Type 0 where
-  pub starts-long : length (es .starts) ≡ n
-  pub ends-long : length (es .ends) ≡ n
-  pub small : EdgesUnderIn steps c es
 
 pub timed-more : (n a b : ℕ) (es : Edges) → a ≤ b → Timed n a es → Timed n b es
 timed-more n a b es l w = record { starts-long = w .starts-long; ends-long = w .ends-long; small = edges-more steps a b es l (w .small) }

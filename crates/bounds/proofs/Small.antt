@@ -14,9 +14,9 @@ use lib.ListN.{length, getD, replicate}
 use lib.Ieee.{Float, nan, inf, fin, up, down, lt, le, eq, ofBits}
 use lib.Ieee.Fits.{down-pos}
 use Rattle.base.specs.Words.{Words, Spans, Edges, edges, withEdges, count, inPlaces, zeroF, wordsInPlaces}
-use Rattle.limits.specs.declared.Answer.the-variants.{Accepted}
-use Rattle.word_calls.proofs.Within.{Within, LimitWithin, WordsWithin}
-use Rattle.word_calls.proofs.Moved.{SoundWithin}
+use Rattle.base.specs.Refusals.{accepts}
+use Rattle.limits.specs.Order.{says}
+use Rattle.word_calls.specs.Within.{Within, LimitWithin, WordsWithin, SoundWithin}
 use Rattle.envelope.specs.Envelope.{loudRow}
 use Rattle.envelope.proofs.Scan.{length-row}
 use Rattle.loops.specs.Loops.{collapseLoops, Output, collapseCall}
@@ -31,25 +31,23 @@ use Rattle.ends.proofs.Calls as ends
 use Rattle.phrase_align.specs.PhraseAlign.{alignPhrases, inTheirPlaces, alignCall}
 use Rattle.phrase_align.specs.PhraseAlign as placings
 use Rattle.phrase_align.proofs.Calls as placing
-use Rattle.phrase_align.specs.declared.Answer.the-variants as placed
 use Rattle.even.specs.Even.{evenOut, evenCall}
 use Rattle.even.proofs.Calls as even
 use Rattle.fit_to_sound.specs.FitToSound.{fitToSound, fitCall}
 use Rattle.fit_to_sound.proofs.Calls as fit
 use Rattle.fit_file.specs.FitFile.{fitFile, durationOf, fitFileCall}
 use Rattle.fit_file.proofs.Calls as file
-use Rattle.bounds.specs.Bounds.{Small, SmallTimes, UnderIn, EdgesUnderIn, Under, EdgesUnder}
+use Rattle.bounds.specs.Bounds.{Small, SmallTimes, UnderIn, EdgesUnderIn, Under, EdgesUnder, steps, stray, slowest, drift, shortest, haul, growth, Timed, Limit, inRow, hour}
 use Rattle.bounds.proofs.Rounding.{under-more, under-finer}
 use Rattle.bounds.proofs.Seconds.{plus-under}
 use Rattle.bounds.proofs.Tailing.{tails-under, tails-long}
 use Rattle.bounds.proofs.Onsetting.{onsets-under, onsets-long}
-use Rattle.bounds.proofs.Ending.{growth, ends-long, ends-under}
+use Rattle.bounds.proofs.Ending.{ends-long, ends-under}
 use Rattle.bounds.proofs.Parted.{Each, edges-more}
-use Rattle.bounds.proofs.Sharing.{steps, stray, Timed}
 use Rattle.bounds.proofs.Placing.{align-under}
-use Rattle.bounds.proofs.Evening.{slowest, Limit, even-under}
-use Rattle.bounds.proofs.Fitting.{drift, fit-under}
-use Rattle.bounds.proofs.Phrasing.{shortest, haul, file-under}
+use Rattle.bounds.proofs.Evening.{even-under}
+use Rattle.bounds.proofs.Fitting.{fit-under}
+use Rattle.bounds.proofs.Phrasing.{file-under}
 
 -- ---- below 2^13 seconds are 2^13 × d of the d-ths
 pub small-under : (d b : ℕ) (x : Float) → b < 2 ^ 13 * d → UnderIn d b x → Small x
@@ -120,7 +118,7 @@ pub loops-small : (ws : Words) → WordsWithin ws → SmallTimes (collapseCall w
 unfolding wordsInPlaces
 loops-small ws w =
     let left = left-within ws w in
-    subst SmallTimes (sym (ap (λ (o : Output). o .words) (loops.accepted-exactly ws .0 w))) (record {
+    subst SmallTimes (sym (ap (λ (o : Output). o .words) (loops.accepted-leaves ws w))) (record {
       starts = places-small (count ws) (collapseLoops ws .words .starts) (λ i l. within-small (getD (collapseLoops ws .words .starts) i nan) (left .starts-within i l));
       ends = places-small (count ws) (collapseLoops ws .words .ends) (λ i l. within-small (getD (collapseLoops ws .words .ends) i nan) (left .ends-within i l));
     })
@@ -131,7 +129,7 @@ hour-long levels floor count h = rw (length-row floor levels) (omega (arith, h .
 
 module _ (ws : Words) (levels : List Float) (floor : Float) (count : ℕ) where
   -- ---- hand_back_tails
-  pub tails-small : tailsCall ws levels floor count .answer ≡ Accepted → SmallTimes (tailsCall ws levels floor count .words)
+  pub tails-small : says (tailsCall ws levels floor count .answer) ≡ accepts tt → SmallTimes (tailsCall ws levels floor count .words)
   tails-small h =
       let w = tails.accepted-exactly ws levels floor count .1 h in
       subst SmallTimes (sym (tails.accepted-words ws levels floor count h))
@@ -139,7 +137,7 @@ module _ (ws : Words) (levels : List Float) (floor : Float) (count : ℕ) where
       (tails-under (loudRow floor levels) 460800 (hour-long levels floor count (w .1)) (omega arith) (ws .letters) (edges (ws .starts) (ws .ends)) (words-under 64 ws (w .0))))
 
   -- ---- snap_onsets
-  pub onsets-small : onsetsCall ws levels floor count .answer ≡ Accepted → SmallTimes (onsetsCall ws levels floor count .words)
+  pub onsets-small : says (onsetsCall ws levels floor count .answer) ≡ accepts tt → SmallTimes (onsetsCall ws levels floor count .words)
   onsets-small h =
       let w = onsets.accepted-exactly ws levels floor count .1 h in
       subst SmallTimes (sym (onsets.accepted-words ws levels floor count h))
@@ -148,7 +146,7 @@ module _ (ws : Words) (levels : List Float) (floor : Float) (count : ℕ) where
 
   module _ (duration : Float) where
     -- ---- snap_ends
-    pub ends-small : endsCall ws levels floor count duration .answer ≡ Accepted → SmallTimes (endsCall ws levels floor count duration .words)
+    pub ends-small : says (endsCall ws levels floor count duration .answer) ≡ accepts tt → SmallTimes (endsCall ws levels floor count duration .words)
     ends-small h =
         let w = ends.accepted-exactly ws levels floor count duration .1 h in
         let n : length (ws .starts) ≤ 4096 = w .0 .0 .few in
@@ -157,11 +155,8 @@ module _ (ws : Words) (levels : List Float) (floor : Float) (count : ℕ) where
         (ends-under (loudRow floor levels) 460800 duration (ws .units) (edges (ws .starts) (ws .ends)) (hour-long levels floor count (w .0 .1)) (omega arith) (omega arith)
         (within-under 64 duration (w .1)) (w .0 .0 .units-from-1) (w .0 .0 .ends-as-long) (w .0 .0 .units-as-long) (words-under 64 ws (w .0 .0))))
 
-    -- ---- the three in a row, with nothing tested between them
-    abbrev pub inRow : Edges
-    inRow = snapEnds (loudRow floor levels) duration (ws .units) (snapOnsets (loudRow floor levels) (handBackTails (loudRow floor levels) (ws .letters) (edges (ws .starts) (ws .ends))))
-
-    pub stages-under : SoundWithin ws (length levels) count → Under 460800 duration → EdgesUnder 501761 inRow
+    -- ---- the three in a row
+    pub stages-under : SoundWithin ws (length levels) count → Under 460800 duration → EdgesUnder 501761 (inRow ws levels floor duration)
     stages-under w d =
         let row : List Bool = loudRow floor levels in
         let short : length row ≤ 360000 = hour-long levels floor count (w .1) in
@@ -173,11 +168,11 @@ module _ (ws : Words) (levels : List Float) (floor : Float) (count : ℕ) where
         let long : length (es₂ .starts) ≡ length (ws .starts) = onsets-long row es₁ .0 ∙ tails-long row (ws .letters) es .0 in
         let long-ends : length (es₂ .ends) ≡ length (ws .starts) = onsets-long row es₁ .1 ∙ tails-long row (ws .letters) es .1 ∙ w .0 .ends-as-long in
         let n : length (es₂ .starts) ≤ 4096 = omega (arith, w .0 .few) in
-        edges-more 64 (460801 + growth * length (es₂ .starts)) 501761 inRow (omega arith)
+        edges-more 64 (460801 + growth * length (es₂ .starts)) 501761 (inRow ws levels floor duration) (omega arith)
         (ends-under row 460801 duration (ws .units) es₂ short (omega arith) (omega arith) (under-more 64 460800 460801 duration (omega arith) d) (w .0 .units-from-1)
         (long-ends ∙ sym long) (w .0 .units-as-long ∙ sym long) u₂)
 
-    pub stages-long : SoundWithin ws (length levels) count → (length (inRow .starts) ≡ length (ws .starts)) × (length (inRow .ends) ≡ length (ws .starts))
+    pub stages-long : SoundWithin ws (length levels) count → (length (inRow ws levels floor duration .starts) ≡ length (ws .starts)) × (length (inRow ws levels floor duration .ends) ≡ length (ws .starts))
     stages-long w =
         let row : List Bool = loudRow floor levels in
         let es : Edges = edges (ws .starts) (ws .ends) in
@@ -187,16 +182,16 @@ module _ (ws : Words) (levels : List Float) (floor : Float) (count : ℕ) where
           ends-long row duration (ws .units) es₂ .1 ∙ onsets-long row es₁ .1 ∙ tails-long row (ws .letters) es .1 ∙ w .0 .ends-as-long,
         )
 
-    pub stages-small : SoundWithin ws (length levels) count → Within duration → SmallTimes (withEdges inRow ws)
-    stages-small w d = edges-small 64 501761 inRow ws (lit< tt) (stages-under w (within-under 64 duration d))
+    pub stages-small : SoundWithin ws (length levels) count → Within duration → SmallTimes (withEdges (inRow ws levels floor duration) ws)
+    stages-small w d = edges-small 64 501761 (inRow ws levels floor duration) ws (lit< tt) (stages-under w (within-under 64 duration d))
 
 -- ---- loops and the three stages in a row: the stages on the words that loops leave
 pub all-small : (ws : Words) (levels : List Float) (floor : Float) (samples : ℕ) (duration : Float) → WordsWithin ws → (samples ≤ 57600000) × (length levels ≡ samples / 160) → Within duration
-    → let left : Words = collapseLoops ws .words in SmallTimes (withEdges (inRow left levels floor samples duration) left)
+    → let left : Words = collapseLoops ws .words in SmallTimes (withEdges (inRow left levels floor duration) left)
 all-small ws levels floor samples duration w l d = stages-small (collapseLoops ws .words) levels floor samples duration (left-within ws w, l) d
 
 -- ---- evening: 7,200 s, 120 s for the last word's slow pace, and 4,096 runs
-pub even-small : (ws : Words) (limit : Float) → evenCall ws limit .answer ≡ Accepted → SmallTimes (evenCall ws limit .words)
+pub even-small : (ws : Words) (limit : Float) → says (evenCall ws limit .answer) ≡ accepts tt → SmallTimes (evenCall ws limit .words)
 even-small ws limit h =
     let w = even.accepted-exactly ws limit .1 h in
     let n : length (ws .letters) ≤ 4096 = omega (arith, w .0 .few, w .0 .letters-as-long) in
@@ -209,7 +204,7 @@ even-small ws limit h =
     limited (inr t) = inl (t, le-refl slowest)
 
 -- ---- fitting to sound: 7,200 s, 120 s for the last word's slow pace, and 0.02 s and two evenings for each of 4,096 words
-pub fit-small : (ws : Words) (levels : List Float) (floor : Float) (count : ℕ) (duration : Float) → fitCall ws levels floor count duration .answer ≡ Accepted → SmallTimes (fitCall ws levels floor count duration .words)
+pub fit-small : (ws : Words) (levels : List Float) (floor : Float) (count : ℕ) (duration : Float) → says (fitCall ws levels floor count duration .answer) ≡ accepts tt → SmallTimes (fitCall ws levels floor count duration .words)
 fit-small ws levels floor count duration h =
     let w = fit.accepted-exactly ws levels floor count duration .1 h in
     let n : length (ws .letters) ≤ 4096 = omega (arith, w .0 .0 .few, w .0 .0 .letters-as-long) in
@@ -219,14 +214,14 @@ fit-small ws levels floor count duration h =
     (edges (ws .starts) (ws .ends)) (words-timed ws (w .0 .0)) .small))
 
 -- ---- the fit by phrase: as fitting to sound, and 0.04 s more, and one evening more for each of 4,096 words; an hour's samples last an hour
-pub lasts-under : (samples : ℕ) → samples ≤ 57600000 → Under 230400 (durationOf samples)
+pub lasts-under : (samples : ℕ) → samples ≤ 57600000 → Under hour (durationOf samples)
 unfolding durationOf
-lasts-under samples h = plus-under 230400 samples (lit< tt) (omega arith)
+lasts-under samples h = plus-under hour samples (lit< tt) (omega arith)
 
 pub hour-lasts : (samples : ℕ) → samples ≤ 57600000 → UnderIn steps (7200 * steps) (durationOf samples)
 hour-lasts samples h = under-more steps (3600 * steps) (7200 * steps) (durationOf samples) (lit≤ tt) (under-finer 64 (2 ^ 34) 230400 (durationOf samples) (lasts-under samples h))
 
-pub fit-file-small : (ws : Words) (phrases : List ℕ) (spans : Spans) (levels : List Float) (floor : Float) (samples places : ℕ) → fitFileCall ws phrases spans levels floor samples places .answer ≡ Accepted
+pub fit-file-small : (ws : Words) (phrases : List ℕ) (spans : Spans) (levels : List Float) (floor : Float) (samples places : ℕ) → says (fitFileCall ws phrases spans levels floor samples places .answer) ≡ accepts tt
     → SmallTimes (fitFileCall ws phrases spans levels floor samples places .words)
 fit-file-small ws phrases spans levels floor samples places h =
     let a = file.accepted-exactly ws phrases spans levels floor samples places .1 h in
@@ -242,7 +237,7 @@ fit-file-small ws phrases spans levels floor samples places h =
     given (words-timed ws w) .small))
 
 -- ---- placing: 7,200 s and one share-out; the places past the words hold zero
-pub align-small : (ws : Words) (spans : Spans) (phrases : List ℕ) (n : ℕ) → alignCall ws spans phrases .answer ≡ placed.Accepted n → SmallTimes (alignCall ws spans phrases .words)
+pub align-small : (ws : Words) (spans : Spans) (phrases : List ℕ) (n : ℕ) → placings.says (alignCall ws spans phrases .answer) ≡ accepts n → SmallTimes (alignCall ws spans phrases .words)
 unfolding inTheirPlaces wordsInPlaces
 align-small ws spans phrases n h =
     let a = placing.accepted-answer ws spans phrases n h in

@@ -13,7 +13,7 @@ use lib.Seq.{getD-set-same, getD-set-other}
 use lib.Ieee.{Float, nan}
 use Rattle.envelope.specs.Envelope.{loud}
 use Rattle.envelope.proofs.Scan as scan
-use Rattle.bounds.specs.Bounds.{UnderIn}
+use Rattle.bounds.specs.Bounds.{UnderIn, AllUnder}
 
 -- ---- of a list in which element i becomes v: P of each other element, and of v where there is an element i
 pub set-each : (P : ℕ → Float → Type 0) (xs : List Float) (i : ℕ) (v : Float) → ((j : ℕ) → j < length xs → (j ≡ i → ⊥) → P j (getD xs j nan)) → (i < length xs → P i v)
@@ -29,10 +29,6 @@ set-each P xs i v others one j h = go (eqb j i) refl
         let k : i < length xs = omega (arith, l) in
         rw e (subst (P i) (sym (getD-set-same xs i v nan k)) (one k))
     go false t = let n = eqb-false j i t in subst (P j) (sym (getD-set-other xs i j v nan n)) (others j l n)
-
--- ---- every time of a list is within b / d
-abbrev pub AllUnder : ℕ → ℕ → List Float → Type 0
-AllUnder d b xs = (i : ℕ) → i < length xs → UnderIn d b (getD xs i nan)
 
 pub set-under : (d b : ℕ) (xs : List Float) (i : ℕ) (v : Float) → AllUnder d b xs → (i < length xs → UnderIn d b v) → AllUnder d b (set xs i v)
 set-under d b xs i v h k = set-each (λ (j : ℕ) (x : Float). UnderIn d b x) xs i v (λ j l n. h j l) k

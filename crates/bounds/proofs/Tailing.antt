@@ -3,26 +3,24 @@
 use Prim.Native.Nat.{ℕ, zero, suc, _+_, _-_, _<_, _≤_}
 use mathlib.Core.Bool.{Bool, true, false, cond, not, _&&_, _||_, true≢false}
 use mathlib.Core.List.{List}
-use mathlib.Core.Path.{_≡_, refl, sym}
+use mathlib.Core.Path.{_≡_, refl, sym, _∙_}
 use native.Mathlib.Omega.{arith}
 use lib.IntN.{ℤ, pos, negsuc, natAbs, _-ℤ_, _+ℤ_}
 use lib.Dec.{ltb}
 use lib.Signed.{ltZ}
-use lib.ListN.{length, getD, length-set}
-use lib.Ieee.{Float, nan, le}
+use lib.ListN.{length, getD, set, length-set}
+use lib.Ieee.{Float, le}
 use Rattle.base.specs.Whole.{toNat}
 use Rattle.base.specs.Loop.{on, run}
 use Rattle.base.specs.Floats.{_⊖_, _⊗_, num}
-use Rattle.base.specs.Words.{Edges, timesAt, edgeQuiet, loose}
-use Rattle.base.specs.declared.Times.{Times}
+use Rattle.base.specs.Words.{Edges, times, timesAt, edgeQuiet, loose}
 use Rattle.base.proofs.Loops.{run-out, each-keeps, each-holds}
 use Rattle.js.specs.Js.{jsMax}
 use Rattle.frames.specs.Frames.{frameAt, frameSeconds}
 use Rattle.envelope.specs.Envelope.{loud}
-use Rattle.tails.specs.Tails.{minLetter, loudTurn, pastLoud, Quiet, pastQuiet, loudBefore, ownSound, tailOf, handBack, tailTurn, handBackTails}
-use Rattle.tails.specs.declared.one_word.Tail.{Tail}
-use Rattle.tails.specs.declared.one_word.Tail.the-variants.{Keeps, Hands}
-use Rattle.bounds.specs.Bounds.{Under, EdgesUnder}
+use Rattle.tails.specs.Tails.{minLetter, loudTurn, pastLoud, Quiet, pastQuiet, loudBefore, ownSound, neighbours, handBack, tailTurn, handBackTails}
+use Rattle.tails.specs.declared.one_word.Neighbours.{Neighbours}
+use Rattle.bounds.specs.Bounds.{Under, EdgesUnder, hour}
 use Rattle.bounds.proofs.Rounding.{max-under}
 use Rattle.bounds.proofs.Seconds.{hour-under}
 use Rattle.bounds.proofs.Stored.{set-under, loud-in}
@@ -57,65 +55,76 @@ heard false true true d h = refl
 heard false true false d h = absurd (true≢false h)
 heard false false c d h = absurd (true≢false h)
 
--- ---- one word
-abbrev TailUnder : ℕ → Tail → Type 0
-TailUnder b Keeps = Unit {0}
-TailUnder b (Hands tailEnd start) = Under b tailEnd × Under b start
+-- ---- one word: each of the two words' times is within the bound, where A, B, C and D say that there is one
+record TimesUnder (b : ℕ) (A B C D : Type 0) (p : Neighbours) : Type 0 where
+  prev-start : A → Under b (p .prev .start)
+  prev-end : B → Under b (p .prev .end)
+  start : C → Under b (p .w .start)
+  end : D → Under b (p .w .end)
 
-or-keeps : (b : ℕ) (t : Bool) (x : Tail) → (t ≡ false → TailUnder b x) → TailUnder b (cond t Keeps x)
-or-keeps b true x h = tt
-or-keeps b false x h = h refl
+or-stays : (P : Neighbours → Type 0) (t : Bool) (p x : Neighbours) → P p → (t ≡ false → P x) → P (cond t p x)
+or-stays P true p x h k = h
+or-stays P false p x h k = k refl
 
-module _ (row : List Bool) (b : ℕ) (short : length row ≤ 360000) (large : 230400 ≤ b) where
-  tail-under : (prevEnd : Float) (w : Times) (letters : ℕ) → TailUnder b (tailOf row prevEnd w letters)
-  unfolding tailOf
-  tail-under prevEnd w letters =
-      let f : ℤ = frameAt (w .start) in
-      let bound : ℤ = frameAt (w .end) in
+module _ (row : List Bool) (b : ℕ) (short : length row ≤ 360000) (large : hour ≤ b) where
+  hand-under : (A B C D : Type 0) (p : Neighbours) (letters : ℕ) → TimesUnder b A B C D p → TimesUnder b A B C D (handBack row p letters)
+  unfolding handBack
+  hand-under A B C D p letters h =
+      let f : ℤ = frameAt (p .w .start) in
+      let bound : ℤ = frameAt (p .w .end) in
       let tailEnd : ℤ = pastLoud row f bound in
       let q : Quiet = pastQuiet row tailEnd bound in
-      let hands : Tail = Hands (frameSeconds tailEnd) (frameSeconds (q .k)) in
+      let moved : Neighbours = neighbours (times (p .prev .start) (jsMax (p .prev .end) (frameSeconds tailEnd))) (times (frameSeconds (q .k)) (p .w .end)) in
       let last : Bool = ltb (q .quiet) edgeQuiet || not (ownSound row (q .k) bound) in
       let long : Bool = le (minLetter ⊗ num letters) (frameSeconds (tailEnd -ℤ f)) in
-      or-keeps b (le loose (w .start ⊖ prevEnd) || (not (loud row (f -ℤ pos 1)) || not (loud row f))) (cond long Keeps (cond last Keeps hands)) (λ landed.
-      or-keeps b long (cond last Keeps hands) (λ brief.
-      or-keeps b last hands (λ own.
-      let l : natAbs (q .k) < length row = loud-in row (q .k) (heard (ltb (q .quiet) edgeQuiet) (ltZ (q .k) bound) (loud row (q .k)) (loudBefore row bound (q .k +ℤ pos 1) && loudBefore row bound (q .k +ℤ pos 2)) own) in (
-        hour-under b tailEnd large (let l = past-in row f bound (third (le loose (w .start ⊖ prevEnd)) (loud row (f -ℤ pos 1)) (loud row f) landed) in omega arith),
-        hour-under b (q .k) large (omega arith),
-      ))))
+      let apart : Bool = le loose (p .w .start ⊖ p .prev .end) in
+      or-stays (TimesUnder b A B C D) (apart || (not (loud row (f -ℤ pos 1)) || not (loud row f))) p (cond long p (cond last p moved)) h (λ landed.
+      or-stays (TimesUnder b A B C D) long p (cond last p moved) h (λ brief.
+      or-stays (TimesUnder b A B C D) last p moved h (λ own.
+      let l : natAbs (q .k) < length row = loud-in row (q .k) (heard (ltb (q .quiet) edgeQuiet) (ltZ (q .k) bound) (loud row (q .k)) (loudBefore row bound (q .k +ℤ pos 1) && loudBefore row bound (q .k +ℤ pos 2)) own) in
+      let e : natAbs tailEnd ≤ length row = past-in row f bound (third apart (loud row (f -ℤ pos 1)) (loud row f) landed) in record {
+        prev-start = h .prev-start;
+        prev-end = λ k. max-under 64 b (p .prev .end) (frameSeconds tailEnd) (h .prev-end k) (hour-under b tailEnd large (omega arith));
+        start = λ k. hour-under b (q .k) large (omega arith);
+        end = h .end;
+      })))
 
-  hand-under : (x : Tail) (i : ℕ) (es : Edges) → TailUnder b x → EdgesUnder b es → EdgesUnder b (handBack x i es)
-  unfolding handBack
-  hand-under Keeps i es h u = u
-  hand-under (Hands tailEnd start) i es h u = record {
-    starts = set-under 64 b (es .starts) i start (u .starts) (λ l. h .1);
-    ends =
-        set-under 64 b (es .ends) (i - 1) (jsMax (getD (es .ends) (i - 1) nan) tailEnd) (u .ends)
-        (λ l. max-under 64 b (getD (es .ends) (i - 1) nan) tailEnd (u .ends (i - 1) l) (h .0));
-  }
+  turn-under : (letters : List ℕ) (i : ℕ) (es : Edges) → EdgesUnder b es → EdgesUnder b (tailTurn row letters i es)
+  unfolding tailTurn
+  turn-under letters i es u =
+      let p : Neighbours = handBack row (neighbours (timesAt es (i - 1)) (timesAt es i)) (getD letters i 0) in
+      let h = hand-under (i - 1 < length (es .starts)) (i - 1 < length (es .ends)) (i < length (es .starts)) (i < length (es .ends)) (neighbours (timesAt es (i - 1)) (timesAt es i)) (getD letters i 0) (record {
+        prev-start = u .starts (i - 1);
+        prev-end = u .ends (i - 1);
+        start = u .starts i;
+        end = u .ends i;
+      }) in
+      record {
+        starts =
+            set-under 64 b (set (es .starts) (i - 1) (p .prev .start)) i (p .w .start) (set-under 64 b (es .starts) (i - 1) (p .prev .start) (u .starts) (h .prev-start))
+            (λ l. h .start (omega (arith, length-set (es .starts) (i - 1) (p .prev .start))));
+        ends =
+            set-under 64 b (set (es .ends) (i - 1) (p .prev .end)) i (p .w .end) (set-under 64 b (es .ends) (i - 1) (p .prev .end) (u .ends) (h .prev-end))
+            (λ l. h .end (omega (arith, length-set (es .ends) (i - 1) (p .prev .end))));
+      }
 
   -- ---- all words: no bound of an hour or more grows
   pub tails-under : (letters : List ℕ) (es : Edges) → EdgesUnder b es → EdgesUnder b (handBackTails row letters es)
-  unfolding handBackTails tailTurn
+  unfolding handBackTails
   tails-under letters es u =
-      each-holds (λ (i : ℕ) (s : Edges). EdgesUnder b s) (tailTurn row letters) (1 + (length (es .starts) - 1))
-      (λ i s l h. hand-under (tailOf row (timesAt s (i - 1) .end) (timesAt s i) (getD letters i 0)) i s (tail-under (timesAt s (i - 1) .end) (timesAt s i) (getD letters i 0)) h)
-      (length (es .starts) - 1) 1 es refl u
+      each-holds (λ (i : ℕ) (s : Edges). EdgesUnder b s) (tailTurn row letters) (1 + (length (es .starts) - 1)) (λ i s l h. turn-under letters i s h) (length (es .starts) - 1) 1 es refl u
 
 -- ---- and no list changes its length
-hand-long : (x : Tail) (i : ℕ) (s : Edges) → (length (handBack x i s .starts) ≡ length (s .starts)) × (length (handBack x i s .ends) ≡ length (s .ends))
-unfolding handBack
-hand-long Keeps i s = (refl, refl)
-hand-long (Hands tailEnd start) i s = (length-set (s .starts) i start, length-set (s .ends) (i - 1) (jsMax (getD (s .ends) (i - 1) nan) tailEnd))
+set-long : (xs : List Float) (i j : ℕ) (a b : Float) → length (set (set xs i a) j b) ≡ length xs
+set-long xs i j a b = length-set (set xs i a) j b ∙ length-set xs i a
 
 pub tails-long : (row : List Bool) (letters : List ℕ) (es : Edges)
     → (length (handBackTails row letters es .starts) ≡ length (es .starts)) × (length (handBackTails row letters es .ends) ≡ length (es .ends))
 unfolding handBackTails tailTurn
 tails-long row letters es = (
-  each-keeps (λ (s : Edges). length (s .starts)) (tailTurn row letters) (λ i s. hand-long (found i s) i s .0) (length (es .starts) - 1) 1 es,
-  each-keeps (λ (s : Edges). length (s .ends)) (tailTurn row letters) (λ i s. hand-long (found i s) i s .1) (length (es .starts) - 1) 1 es,
+  each-keeps (λ (s : Edges). length (s .starts)) (tailTurn row letters) (λ i s. set-long (s .starts) (i - 1) i (after i s .prev .start) (after i s .w .start)) (length (es .starts) - 1) 1 es,
+  each-keeps (λ (s : Edges). length (s .ends)) (tailTurn row letters) (λ i s. set-long (s .ends) (i - 1) i (after i s .prev .end) (after i s .w .end)) (length (es .starts) - 1) 1 es,
 )
   where
-    found : ℕ → Edges → Tail
-    found i s = tailOf row (timesAt s (i - 1) .end) (timesAt s i) (getD letters i 0)
+    after : ℕ → Edges → Neighbours
+    after i s = handBack row (neighbours (timesAt s (i - 1)) (timesAt s i)) (getD letters i 0)

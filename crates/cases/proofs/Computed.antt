@@ -2,6 +2,7 @@
 use Prim.Native.Nat.{ℕ, _*_}
 use mathlib.Core.Path.{_≡_, refl, ap}
 use mathlib.Core.List.{[], _∷_, _++_}
+use mathlib.Core.Option.{some}
 use mathlib.Core.Bool.{true, false}
 use lib.Count.{trailingZeros}
 use lib.ListN.{replicate}
@@ -18,8 +19,7 @@ use Rattle.ends.specs.Ends.{lastLoud, soundEnd, nextStart, isPair, pairStart, p
 use Rattle.share.specs.Share as shares
 use Rattle.spread.specs.Spread as spreads
 use Rattle.even.specs.Even as even
-use Rattle.last_run.specs.LastRun.{endsBetween, framesOf, frameRun, lastRun}
-use Rattle.last_run.specs.declared.Run.the-variants.{Sound}
+use Rattle.last_run.specs.LastRun.{endsBetween, framesOf, frameRun, lastRun, times as runTimes}
 use Rattle.fit_file.specs.FitFile.{insideSpan}
 use Rattle.cases.specs.Table.{Table, Sentences, double, zero, keysLeft}
 
@@ -44,7 +44,7 @@ edge-shared : snapEnds (replicate 30 false) (double false 30 100) (3 ∷ 3 ∷ [
 unfolding snapEnds endTurn setPair nextStart isPair pairOf pairStart pairEdge endOf reach orDuration trimmed soundEnd lastLoud each run frameAt floorI64 frameSeconds jsMin jsMax jsToFixed nearestUp under isNan add sub neg sum mul div lt le eq ofInt round size span climb units odd ofBits ofFields trailingZeros
 edge-shared = refl
 
-pause-bridged : lastRun (replicate 4 true ++ (replicate 15 false ++ replicate 4 true)) (zero false) (double false 23 100) ≡ Sound (zero false) (double false 23 100)
+pause-bridged : runTimes (lastRun (replicate 4 true ++ (replicate 15 false ++ replicate 4 true)) (zero false) (double false 23 100)) ≡ some (zero false, double false 23 100)
 unfolding lastRun frameRun endsBetween framesOf runBack frameFromZero frameAt floorI64 frameSeconds mul div ofInt round size span climb units odd ofBits ofFields trailingZeros
 pause-bridged = refl
 

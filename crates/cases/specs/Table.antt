@@ -5,6 +5,7 @@ use mathlib.Core.Path.{_≡_}
 use lib.IntN.{pos}
 use lib.Ieee.{Float, fin, binary64, round, ofBits}
 use mathlib.Core.List.{List, [], _∷_, _++_}
+use mathlib.Core.Option.{some}
 use lib.ListN.{replicate}
 use Rattle.base.specs.Words.{words, edges, times}
 use Rattle.js.specs.Js.{jsToFixed}
@@ -14,8 +15,7 @@ use Rattle.loops.specs.Loops.{collapseLoops}
 use Rattle.ends.specs.Ends.{snapEnds}
 use Rattle.spread.specs.Spread.{placeGroup}
 use Rattle.even.specs.Even.{evenOut}
-use Rattle.last_run.specs.LastRun.{lastRun}
-use Rattle.last_run.specs.declared.Run.the-variants.{Sound}
+use Rattle.last_run.specs.LastRun.{lastRun, times as runTimes}
 use Rattle.fit_file.specs.FitFile.{insideSpan}
 
 -- ---- The double that a decimal number stands for: the nearest to n / d, with a sign.
@@ -57,8 +57,8 @@ pub record Table : Type 0 where
       (edges (double false 10 100 ∷ double false 13 100 ∷ []) (double false 12 100 ∷ double false 20 100 ∷ []))
       ≡ edges (double false 10 100 ∷ double false 16 100 ∷ []) (double false 16 100 ∷ double false 20 100 ∷ [])
   -- Evening and fitting: "Loud 0 to 3 and 19 to 22, from 0 to 0.23: ● last run (0, 0.23)."
-  pub pause-bridged : lastRun (replicate 4 true ++ (replicate 15 false ++ replicate 4 true)) (zero false) (double false 23 100)
-      ≡ Sound (zero false) (double false 23 100)
+  pub pause-bridged : runTimes (lastRun (replicate 4 true ++ (replicate 15 false ++ replicate 4 true)) (zero false) (double false 23 100))
+      ≡ some (zero false, double false 23 100)
 
 -- ---- Sentences of document 01 that bear no ●, each with an example of ours: letters, then the words' starts and ends.
 pub record Sentences : Type 0 where

@@ -1,5 +1,6 @@
 -- Laws of words' ends: one word's turn, and the call.
 pub mod SoundEnds
+pub mod Found
 pub mod EndOf
 pub mod Rise
 pub mod OneWord

@@ -23,11 +23,11 @@ use Rattle.envelope.proofs.Scan.{length-row}
 use Rattle.ends.specs.Ends.{Last, lastTurn, lastLoud, soundEnd}
 use Rattle.ends.specs.Parts.{seen, soundOn}
 
-and-false : (a : Bool) → (a && false) ≡ false
+pub and-false : (a : Bool) → (a && false) ≡ false
 and-false true = refl
 and-false false = refl
 
-and-true : (a : Bool) → (a && true) ≡ a
+pub and-true : (a : Bool) → (a && true) ≡ a
 and-true true = refl
 and-true false = refl
 
@@ -65,7 +65,7 @@ module _ (edge : ℕ) (row : List Bool) where
     go true e h = rw e
     go false e h = rw (e, and-false (leb edge (q + 1)), and-false (leb edge (r + 1))) h
 
-  lastLoud-nat : (a b : ℤ) → lastLoud edge row a b ≡ run (lastTurn edge row) (toNat b - toNat a) (pos (toNat a)) (on (record { last = negsuc 0; quiet = 0 })) .last
+  pub lastLoud-nat : (a b : ℤ) → lastLoud edge row a b ≡ run (lastTurn edge row) (toNat b - toNat a) (pos (toNat a)) (on (record { last = negsuc 0; quiet = 0 })) .last
   unfolding lastLoud
   lastLoud-nat a b =
       range-nat (lastTurn edge row) (λ s. record { last = s .last; quiet = s .quiet + 1 }) (λ s. s .last ≡ negsuc 0) (λ s. s .last)

@@ -1,110 +1,60 @@
--- The call `envelope` in plain words: accepted exactly when, refused with 4 and with 6 exactly when, and a refusal changes nothing.
+-- The call `envelope` in plain words: accepted exactly when all is within the limits, refused exactly with the first refusal that applies, and a refusal changes nothing.
 -- And `own_floor`: yes exactly when the floor is the levels' own. Assumes nothing.
 use mathlib.Core.Path.{_≡_, refl, sym, ap, _∙_}
 use mathlib.Core.Bool.{Bool, true, false, cond, not, _&&_, true≢false}
-use mathlib.Core.Logic.{_↔_}
-use mathlib.Core.List.{List}
-use Prim.Native.Nat.{ℕ, _≤_, _<_}
-use native.Mathlib.Omega.{arith}
-use borrow.Author.Tests.{ltb-true, ltb-false, eqb-true, eq-eqb}
+use mathlib.Core.Logic.{_↔_, inl, inr}
+use mathlib.Core.List.{List, [], _∷_}
+use Prim.Native.Nat.{ℕ, _≤_}
+use borrow.Author.Tests.{ltb-false, le-ltb, eqb-true, eq-eqb}
 use lib.Dec.{T, eqb}
 use lib.ListN.{length}
 use lib.Ieee.{Float, nan, inf, fin, binary64, fits, isNan, toBits, ofBits}
 use lib.Ieee.Bits.{ofBits-toBits}
 use lib.Ieee.Fits.{mul-fits}
-use Rattle.base.specs.Refusals.{first}
-use Rattle.base.specs.declared.Refusal.{Refusal}
-use Rattle.base.specs.declared.Refusal.the-variants.{Counts, Places}
+use Rattle.base.specs.Refusals.{first, None, First, accepts, refuses, Judged, saysOf, Listed}
 use Rattle.base.specs.declared.Rule.{Rule}
 use Rattle.base.specs.declared.Rule.the-variants.{Fine, Breaks}
-use Rattle.base.proofs.First.{first-here, first-skip, first-end}
-use Rattle.limits.specs.Limits.{manySamples, fewPlaces}
-use Rattle.envelope.specs.Envelope.{frames, levels, peak, hundredth, floor, alike, ownFloor, tests, byRule, accepted, envelopeCall}
-use Rattle.envelope.specs.declared.Answer.the-variants.{Accepted, Refused}
-use Rattle.envelope.proofs.Limits.{call-by}
+use Rattle.base.proofs.First.{apart, judged}
+use Rattle.envelope.specs.Envelope.{frames, levels, peak, hundredth, floor, alike, ownFloor, says, tests, byRule, accepted, envelopeCall}
 
 module _ (samples places : List Float) where
-  -- what the call finds, by its two tests
-  found : (a b : Bool) → manySamples (length samples) ≡ a → fewPlaces (length places) (frames samples) ≡ b → first (tests samples places) ≡ cond a (Breaks Counts) (cond b (Breaks Places) Fine)
+  -- no test applies exactly when all is within the limits
+  within-exactly : ((length samples ≤ 57600000) × (frames samples ≤ length places)) ↔ None (tests samples places)
   unfolding tests
-  found true b p q = first-here _ _ p
-  found false true p q = first-skip _ _ p ∙ first-here _ _ q
-  found false false p q = first-skip _ _ p ∙ first-skip _ _ q ∙ first-end
+  within-exactly = (
+    λ h. (le-ltb 57600000 (length samples) (h .0), (le-ltb (length places) (frames samples) (h .1), tt)),
+    λ n. (ltb-false 57600000 (length samples) (n .0), ltb-false (length places) (frames samples) (n .1 .0)),
+  )
 
-  answer-by : {r : Rule} → first (tests samples places) ≡ r → envelopeCall samples places .answer ≡ byRule r samples places .answer
-  answer-by h = ap (λ o. o .answer) (call-by samples places h)
+  listed : Listed (4 ∷ 6 ∷ []) (tests samples places)
+  unfolding tests
+  listed = (inr (inl refl), (inr (inr (inl refl)), tt))
 
-  -- the three outcomes, of which each rules out the others
-  pub data Outcome : Type 0 where
-    many : 57600000 < length samples → envelopeCall samples places .answer ≡ Refused Counts → Outcome
-    few : length samples ≤ 57600000 → length places < frames samples → envelopeCall samples places .answer ≡ Refused Places → Outcome
-    fine : length samples ≤ 57600000 → frames samples ≤ length places → envelopeCall samples places .answer ≡ Accepted (floor (levels samples)) → Outcome
-
-  pub outcome : Outcome
+  -- what is said, by what the tests find
+  rule-says : (r : Rule) → says (byRule r samples places .answer) ≡ saysOf (floor (levels samples)) r
   unfolding accepted
-  outcome = go (manySamples (length samples)) (fewPlaces (length places) (frames samples)) refl refl
-    where
-      go : (a b : Bool) → manySamples (length samples) ≡ a → fewPlaces (length places) (frames samples) ≡ b → Outcome
-      go true b p q = many (ltb-true 57600000 (length samples) p) (answer-by (found true b p q))
-      go false true p q = few (ltb-false 57600000 (length samples) p) (ltb-true (length places) (frames samples) q) (answer-by (found false true p q))
-      go false false p q = fine (ltb-false 57600000 (length samples) p) (ltb-false (length places) (frames samples) q) (answer-by (found false false p q))
+  rule-says Fine = refl
+  rule-says (Breaks r) = refl
 
-  apart : {A : Type 0} {f : Float} {r : Refusal} → envelopeCall samples places .answer ≡ Accepted f → envelopeCall samples places .answer ≡ Refused r → A
-  apart p q = absurd (let z : _≡_ {A = ℕ} 0 1 = cc in omega arith)
+  -- ---- accepted, with the floor, exactly when the samples are within the limit and every frame has a place; refused with n exactly when n is the first that applies, of 4, 6
+  pub answers : Judged ((length samples ≤ 57600000) × (frames samples ≤ length places)) (4 ∷ 6 ∷ []) (tests samples places) (floor (levels samples)) (says (envelopeCall samples places .answer))
+  unfolding envelopeCall
+  answers = judged (floor (levels samples)) within-exactly listed (rule-says (first (tests samples places)))
 
-  other : {A : Type 0} → envelopeCall samples places .answer ≡ Refused Counts → envelopeCall samples places .answer ≡ Refused Places → A
-  other p q = absurd (let z : _≡_ {A = ℕ} 0 1 = cc in omega arith)
+  pub accepted-exactly : ((length samples ≤ 57600000) × (frames samples ≤ length places)) ↔ (says (envelopeCall samples places .answer) ≡ accepts (floor (levels samples)))
+  accepted-exactly = answers .accepted-exactly
 
-  -- ---- accepted exactly when the samples are within the limit and every frame has a place
-  pub accepted-exactly : ((length samples ≤ 57600000) × (frames samples ≤ length places)) ↔ (envelopeCall samples places .answer ≡ Accepted (floor (levels samples)))
-  accepted-exactly = (λ h. to h outcome, λ e. from e outcome)
-    where
-      to : (length samples ≤ 57600000) × (frames samples ≤ length places) → Outcome → envelopeCall samples places .answer ≡ Accepted (floor (levels samples))
-      to h (many p a) = absurd (omega (arith, h .0))
-      to h (few p q a) = absurd (omega (arith, h .1))
-      to h (fine p q a) = a
-
-      from : envelopeCall samples places .answer ≡ Accepted (floor (levels samples)) → Outcome → (length samples ≤ 57600000) × (frames samples ≤ length places)
-      from e (many p a) = apart e a
-      from e (few p q a) = apart e a
-      from e (fine p q a) = (p, q)
-
-  -- ---- refused with 4 exactly when there are too many samples
-  pub refused-4-exactly : (57600000 < length samples) ↔ (envelopeCall samples places .answer ≡ Refused Counts)
-  refused-4-exactly = (λ h. to h outcome, λ e. from e outcome)
-    where
-      to : 57600000 < length samples → Outcome → envelopeCall samples places .answer ≡ Refused Counts
-      to h (many p a) = a
-      to h (few p q a) = absurd (omega arith)
-      to h (fine p q a) = absurd (omega arith)
-
-      from : envelopeCall samples places .answer ≡ Refused Counts → Outcome → 57600000 < length samples
-      from e (many p a) = p
-      from e (few p q a) = other e a
-      from e (fine p q a) = apart a e
-
-  -- ---- refused with 6 exactly when that is not so, and a frame has no place
-  pub refused-6-exactly : ((length samples ≤ 57600000) × (length places < frames samples)) ↔ (envelopeCall samples places .answer ≡ Refused Places)
-  refused-6-exactly = (λ h. to h outcome, λ e. from e outcome)
-    where
-      to : (length samples ≤ 57600000) × (length places < frames samples) → Outcome → envelopeCall samples places .answer ≡ Refused Places
-      to h (many p a) = absurd (omega (arith, h .0))
-      to h (few p q a) = a
-      to h (fine p q a) = absurd (omega (arith, h .1))
-
-      from : envelopeCall samples places .answer ≡ Refused Places → Outcome → (length samples ≤ 57600000) × (length places < frames samples)
-      from e (many p a) = other a e
-      from e (few p q a) = (p, q)
-      from e (fine p q a) = apart a e
+  pub refused-exactly : (n : ℕ) → First n (tests samples places) ↔ (says (envelopeCall samples places .answer) ≡ refuses n)
+  refused-exactly = answers .refused-exactly
 
   -- ---- a refusal changes nothing
-  pub refusal-keeps : {r : Refusal} → envelopeCall samples places .answer ≡ Refused r → envelopeCall samples places .places ≡ places
+  pub refusal-keeps : (n : ℕ) → says (envelopeCall samples places .answer) ≡ refuses n → envelopeCall samples places .places ≡ places
   unfolding envelopeCall accepted
-  refusal-keeps {r} e = go (first (tests samples places)) e
+  refusal-keeps n = go (first (tests samples places))
     where
-      go : (q : Rule) → byRule q samples places .answer ≡ Refused r → byRule q samples places .places ≡ places
-      go Fine h = absurd (let z : _≡_ {A = ℕ} 0 1 = cc in omega arith)
-      go (Breaks x) h = refl
+      go : (r : Rule) → says (byRule r samples places .answer) ≡ refuses n → byRule r samples places .places ≡ places
+      go Fine h = apart h
+      go (Breaks r) h = refl
 
 -- ---- a floor is the levels' own exactly when it is the floor that they give
 and-parts : (a b : Bool) → (a && b) ≡ true → (a ≡ true) × (b ≡ true)

@@ -9,7 +9,7 @@ use lib.IntN.{ℤ, pos, negsuc}
 use Rattle.base.specs.Loop.{fold, table}
 use Rattle.roots.specs.Sqrt.{sqrt}
 use Rattle.js.specs.Js.{jsMax}
-use Rattle.base.specs.Refusals.{Test, test, first}
+use Rattle.base.specs.Refusals.{number, Test, test, first, Says, accepts, refuses}
 use Rattle.base.specs.declared.Refusal.the-variants.{Counts, Places}
 use Rattle.base.specs.declared.Rule.{Rule}
 use Rattle.base.specs.declared.Rule.the-variants.{Fine, Breaks}
@@ -93,6 +93,11 @@ unfoldable pub quietRow : Float → List Float → List Bool
 quietRow f ls = map (λ v. le v f) ls
 
 -- ======== What the public calls of `envelope` answer and leave.
+
+-- ---- "floor is peak × 0.01", given back; "A refusal returns its number only".
+abbrev pub says : Answer → Says Float
+says (Accepted f) = accepts f
+says (Refused r) = refuses (number r)
 
 -- ---- What the call gives back, and what the lent places hold afterwards.
 pub record Output : Type 0 where

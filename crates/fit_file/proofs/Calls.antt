@@ -2,7 +2,7 @@
 use Prim.Native.Nat.{ℕ, _≤_, _^_, min}
 use mathlib.Core.Path.{_≡_, sym, _∙_}
 use mathlib.Core.Logic.{_↔_}
-use mathlib.Core.List.{List}
+use mathlib.Core.List.{List, [], _∷_}
 use native.Mathlib.Omega.{arith}
 use lib.ListN.{length}
 use lib.Ieee.{Float}
@@ -10,10 +10,11 @@ use Rattle.base.specs.Words.{Words, words, Spans, Edges, edges, count}
 use Rattle.base.specs.declared.Refusal.{Refusal}
 use Rattle.base.specs.declared.Rule.{Rule}
 use Rattle.base.specs.declared.Rule.the-variants.{Fine, Breaks}
-use Rattle.base.proofs.First.{First}
-use Rattle.limits.specs.Order.{inOrder}
+use Rattle.base.specs.Refusals.{First, accepts, refuses, Judged}
+use Rattle.limits.specs.Order.{inOrder, says}
 use Rattle.limits.specs.declared.Answer.the-variants.{Accepted, Refused}
-use Rattle.word_calls.specs.Calls.{phrasesRule, output}
+use Rattle.word_calls.specs.Within.{PhrasesWithin}
+use Rattle.word_calls.specs.Calls.{phrasesApplies, phrasesRule, output, Keeps}
 use Rattle.word_calls.proofs.Moved as moves
 use Rattle.envelope.specs.Envelope.{loudRow}
 use Rattle.fit_file.specs.FitFile.{fitFile, durationOf, workPlaces, fitFileCall}
@@ -23,33 +24,31 @@ module _ (ws : Words) (phrases : List ℕ) (spans : Spans) (levels : List Float)
   abbrev given : Edges
   given = fitFile (loudRow floor levels) (durationOf samples) (ws .letters) phrases (edges (spans .starts) (spans .ends)) (edges (ws .starts) (ws .ends))
 
-  -- ---- accepted exactly when words, samples and levels and spans are within the limits, each word has a phrase number, and the work space has a place for each
-  pub accepted-exactly : moves.PhrasesWithin ws (length phrases) spans (length levels) samples places (count ws) ↔ (fitFileCall ws phrases spans levels floor samples places .answer ≡ Accepted)
-  unfolding fitFileCall phrasesRule
-  accepted-exactly =
-      let w = moves.within-phrases ws (length phrases) spans (length levels) samples places (count ws) in
-      let e = moves.accepted-exactly given ws (moves.phrasesApplies ws (length phrases) spans (length levels) samples places (count ws)) in
-      ((λ h. e .0 (w .0 h)), (λ h. w .1 (e .1 h)))
+  -- ---- accepted exactly when words, samples and levels and spans are within the limits, each word has a phrase number, and the work space has a place for each;
+  -- refused with n exactly when n is the first that applies, of 3, 4, 1, 2, 7, 6
+  pub answers : Judged (PhrasesWithin ws (length phrases) spans (length levels) samples places (count ws)) (3 ∷ 4 ∷ 1 ∷ 2 ∷ 7 ∷ 6 ∷ []) (inOrder (phrasesApplies ws (length phrases) spans (length levels) samples places (count ws))) tt (says (fitFileCall ws phrases spans levels floor samples places .answer))
+  unfolding fitFileCall
+  answers = moves.phrases-judged ws (length phrases) spans (length levels) samples places (count ws) given
 
-  -- ---- and then the words have the edges that the fit gives
-  pub accepted-words : fitFileCall ws phrases spans levels floor samples places .answer ≡ Accepted
+  pub accepted-exactly : PhrasesWithin ws (length phrases) spans (length levels) samples places (count ws) ↔ (says (fitFileCall ws phrases spans levels floor samples places .answer) ≡ accepts tt)
+  accepted-exactly = answers .accepted-exactly
+
+  pub refused-exactly : (n : ℕ) → First n (inOrder (phrasesApplies ws (length phrases) spans (length levels) samples places (count ws))) ↔ (says (fitFileCall ws phrases spans levels floor samples places .answer) ≡ refuses n)
+  refused-exactly = answers .refused-exactly
+
+  -- ---- accepted, the words have the edges that the fit gives
+  pub accepted-words : says (fitFileCall ws phrases spans levels floor samples places .answer) ≡ accepts tt
       → fitFileCall ws phrases spans levels floor samples places .words ≡ words (given .starts) (given .ends) (ws .letters) (ws .units) (ws .keys)
   unfolding fitFileCall
   accepted-words h = moves.accepted-words given ws (phrasesRule ws (length phrases) spans (length levels) samples places (count ws)) h
 
-  -- ---- refused with r exactly when r is the first refusal that applies, of 3, 4, 1, 2, 7, 6
-  pub refused-exactly : (r : Refusal)
-      → First r (inOrder (moves.phrasesApplies ws (length phrases) spans (length levels) samples places (count ws))) ↔ (fitFileCall ws phrases spans levels floor samples places .answer ≡ Refused r)
-  unfolding fitFileCall phrasesRule
-  refused-exactly r = moves.refused-exactly given ws (moves.phrasesApplies ws (length phrases) spans (length levels) samples places (count ws)) r
-
   -- ---- a refusal changes nothing
-  pub refusal-keeps : (r : Refusal) → fitFileCall ws phrases spans levels floor samples places .answer ≡ Refused r → fitFileCall ws phrases spans levels floor samples places .words ≡ ws
+  pub refusal-keeps : (n : ℕ) → says (fitFileCall ws phrases spans levels floor samples places .answer) ≡ refuses n → fitFileCall ws phrases spans levels floor samples places .words ≡ ws
   unfolding fitFileCall
-  refusal-keeps r h = moves.refusal-keeps given ws r (phrasesRule ws (length phrases) spans (length levels) samples places (count ws)) h
+  refusal-keeps n h = moves.refusal-keeps given ws n (phrasesRule ws (length phrases) spans (length levels) samples places (count ws)) h
 
   -- ---- letters, units and keys stay, accepted or refused
-  pub others-stay : moves.Keeps ws (fitFileCall ws phrases spans levels floor samples places .words)
+  pub others-stay : Keeps ws (fitFileCall ws phrases spans levels floor samples places .words)
   unfolding fitFileCall
   others-stay = moves.moved-keeps given ws (phrasesRule ws (length phrases) spans (length levels) samples places (count ws))
 
@@ -57,7 +56,7 @@ module _ (ws : Words) (phrases : List ℕ) (spans : Spans) (levels : List Float)
 module _ (ws : Words) (phrases : ℕ) (spans : Spans) (levels samples starts ends letters : ℕ) {found : Rule} {inner places : ℕ}
     (is-inner : inner ≡ min ends letters) (is-places : places ≡ min starts inner)
     (is : found ≡ phrasesRule ws phrases spans levels samples places (count ws)) (fine : found ≡ Fine) where
-  within : moves.PhrasesWithin ws phrases spans levels samples places (count ws)
+  within : PhrasesWithin ws phrases spans levels samples places (count ws)
   within = moves.phrases-fine ws phrases spans levels samples places (count ws) (sym is ∙ fine)
 
   pub short : samples ≤ 57600000

@@ -17,12 +17,8 @@ use Rattle.base.specs.Words.{Edges, edges, timesAt}
 use Rattle.base.specs.Loop.{each}
 use Rattle.base.proofs.Parts.{long, both, times-alike}
 use Rattle.fit_file.specs.FitFile.{memberTurn, membersOf, picked, pickedEdges, putBack, putEdges}
+use Rattle.fit_file.specs.Parts.{AllOf, Distinct}
 use Rattle.fit_file.proofs.Members.{turn-hit, turn-miss, members-next}
-
--- ---- P of every number of a list
-abbrev pub AllOf : (ℕ → Type 0) → List ℕ → Type 0
-AllOf P [] = Unit
-AllOf P (i ∷ is) = P i × AllOf P is
 
 all-more : (P : ℕ → Type 0) (is : List ℕ) (i : ℕ) → AllOf P is → P i → AllOf P (is ++ (i ∷ []))
 all-more P [] i h p = (p, tt)
@@ -31,11 +27,6 @@ all-more P (j ∷ is) i h p = (h .0, all-more P is i (h .1) p)
 pub all-each : (P Q : ℕ → Type 0) → ((i : ℕ) → P i → Q i) → (is : List ℕ) → AllOf P is → AllOf Q is
 all-each P Q f [] h = tt
 all-each P Q f (i ∷ is) h = (f i (h .0), all-each P Q f is (h .1))
-
--- ---- no number stands twice in a list
-abbrev pub Distinct : List ℕ → Type 0
-Distinct [] = Unit
-Distinct (i ∷ is) = AllOf (λ (j : ℕ). i ≢ j) is × Distinct is
 
 distinct-more : (is : List ℕ) (i : ℕ) → AllOf (λ (j : ℕ). j < i) is → Distinct is → Distinct (is ++ (i ∷ []))
 distinct-more [] i h d = (tt, tt)

@@ -1,7 +1,8 @@
--- What only the contracts of unchecked parts cite; a reader of the public calls may skip it. Assumes nothing.
+-- What only the contracts of unchecked parts and the laws of their places cite; a reader of the public calls may skip it. Assumes nothing.
 use Prim.Native.Nat.{ℕ}
 use mathlib.Core.Path.{_≡_}
-use mathlib.Core.List.{List}
+use mathlib.Core.Logic.{_≢_}
+use mathlib.Core.List.{List, [], _∷_}
 use lib.ListN.{length, take}
 use lib.Ieee.{Float, nan}
 use Rattle.base.specs.Words.{Edges}
@@ -18,3 +19,13 @@ pub record Holds (members : List ℕ) (es : Edges) (weights : List ℕ) (n : ℕ
 pub record Put (members : List ℕ) (group es : Edges) (n : ℕ) (now : Edges) : Type 0 where
   pub many : n ≡ length members
   pub edges : now ≡ putEdges members group es
+
+-- ---- P of every number of a list.
+abbrev pub AllOf : (ℕ → Type 0) → List ℕ → Type 0
+AllOf P [] = Unit
+AllOf P (i ∷ is) = P i × AllOf P is
+
+-- ---- No number stands twice in a list.
+abbrev pub Distinct : List ℕ → Type 0
+Distinct [] = Unit
+Distinct (i ∷ is) = AllOf (λ (j : ℕ). i ≢ j) is × Distinct is

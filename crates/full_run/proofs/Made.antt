@@ -14,7 +14,8 @@ use Rattle.limits.specs.Order.{chain}
 use Rattle.word_calls.proofs.Within.{one-length, letters-most}
 use Rattle.envelope.specs.Envelope.{frames, levels, floor, loudRow, quietRow}
 use Rattle.envelope.proofs.Places.{length-levels, front-levels}
-use Rattle.pieces.specs.Parts.{startsOver, endsOver, Ready as PiecesReady}
+use Rattle.pieces.specs.Pieces.{Ready as PiecesReady}
+use Rattle.pieces.specs.Parts.{startsOver, endsOver}
 use Rattle.fit_file.specs.FitFile.{workPlaces}
 use Rattle.full_run.specs.Parts.{appliesTo}
 use Rattle.run_stages.specs.Parts.{Ready, FewLetters, Running}

@@ -13,14 +13,14 @@ use Rattle.base.specs.declared.Rule.the-variants.{Fine, Breaks}
 use Rattle.limits.specs.Order.{chain}
 use Rattle.word_calls.proofs.Within.{one-length, letters-most}
 use Rattle.envelope.specs.Envelope.{floor, loudRow, quietRow}
-use Rattle.pieces.specs.Parts.{Ready as PiecesReady}
+use Rattle.pieces.specs.Pieces.{Ready as PiecesReady}
 use Rattle.full_run.specs.Parts.{appliesTo, Heard}
 use Rattle.run_stages.specs.Parts.{Ready, FewLetters, Running}
 use Rattle.run_stages.specs.Stages.{Run, runOn}
 use Rattle.run_stages.specs.declared.Outcome.{Outcome}
-use Rattle.full_run.specs.FullRun.{Input, input, runApplies}
+use Rattle.full_run.specs.FullRun.{Input, input, runApplies, RunWithin}
 use Rattle.full_run.specs.declared.Answer.the-variants.{Accepted, Refused}
-use Rattle.full_run.proofs.Promises.{RunWithin, within}
+use Rattle.full_run.proofs.Promises.{within}
 use Rattle.full_run.proofs.Made.{applies-are}
 
 module _ (ls : List Float) (samples : ℕ) (ws : Words) (spans : Spans) (phrases : List ℕ) (starts ends : List ℕ) (work : ℕ) where

@@ -1,14 +1,16 @@
 -- Document 01, "Full run". Assumes nothing.
-use Prim.Native.Nat.{ℕ, min}
+use Prim.Native.Nat.{ℕ, _≤_, min}
 use mathlib.Core.Path.{_≡_}
 use mathlib.Core.List.{List, _++_, map}
 use lib.ListN.{length, drop}
 use lib.Ieee.{Float}
 use Rattle.base.specs.Words.{Words, Spans, count, wordsInPlaces}
+use Rattle.base.specs.Refusals.{number, Says, accepts, refuses}
 use Rattle.base.specs.declared.Rule.{Rule}
 use Rattle.base.specs.declared.Rule.the-variants.{Fine, Breaks}
 use Rattle.limits.specs.declared.Applies.{Applies}
 use Rattle.limits.specs.Order.{also, chain}
+use Rattle.word_calls.specs.Within.{WordsWithin, SpansWithin}
 use Rattle.word_calls.specs.Calls.{ofWords, ofSamples, ofSpans, ofPlaces}
 use Rattle.envelope.specs.Envelope.{frames, levels, floor, loudRow, quietRow}
 use Rattle.pieces.specs.Pieces.{need, over}
@@ -46,6 +48,22 @@ runApplies i =
     (also (ofPlaces (min (length (i .pieceStarts)) (length (i .pieceEnds))) (need (frames (i .samples))))
     (also (ofPlaces (length (i .phrases)) (count (i .words)))
     (ofPlaces (i .work) (count (i .words))))))
+
+-- ---- The same in plain words, with "How much is taken": words, spans and samples within the limits, and the places that are needed.
+pub record RunWithin (i : Input) : Type 0 where
+  pub words-within : WordsWithin (i .words)
+  pub spans-within : SpansWithin (i .spans)
+  pub few-samples : length (i .samples) ≤ 57600000
+  pub level-places : frames (i .samples) ≤ length (i .levels)
+  pub start-places : need (frames (i .samples)) ≤ length (i .pieceStarts)
+  pub end-places : need (frames (i .samples)) ≤ length (i .pieceEnds)
+  pub phrase-places : count (i .words) ≤ length (i .phrases)
+  pub work-places : count (i .words) ≤ i .work
+
+-- ---- "Given back: the floor, the piece count, the final word count and `found`", which are a report; "A refusal returns its number only".
+abbrev pub says : Answer → Says Report
+says (Accepted r) = accepts r
+says (Refused why) = refuses (number why)
 
 -- ---- What a call gives back, and what the lent places hold afterwards.
 pub record Output : Type 0 where

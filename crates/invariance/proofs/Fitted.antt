@@ -17,6 +17,7 @@ use Rattle.frames.specs.Frames.{floorI64, frameAt, frameFromZero, frameSeconds}
 use Rattle.envelope.specs.Envelope.{levels, peak, floor, loudRow}
 use Rattle.limits.specs.Limits.{any, timeOf}
 use Rattle.limits.specs.Order.{when, also, inOrder, chain}
+use Rattle.limits.specs.Order.{says}
 use Rattle.limits.specs.declared.Answer.the-variants.{Accepted}
 use Rattle.word_calls.specs.Calls.{uneven, ofWords, ofSamples, ofLevels, ofList, unevenSpans, manySpans, ofSpans, ofPlaces, phrasesRule, Output, output}
 use Rattle.share.specs.Share as shares
@@ -94,5 +95,5 @@ given = record { words = words-alike; span-there = ((λ h. h), (λ h. h)); span-
 example : wordAt (pair fitted zero-s fitted) 0 ≡ wordAt (pair fitted eighth quarter) 0
 example =
     ap (λ (o : Output). wordAt (o .words) 0) (sym first-fit)
-    ∙ phrase-scaled (pos 2) true recording multiplied recorded reached numbers 0 _ _ (two-spans half-s) (two-spans quarter) 2 9 given (ap (λ (o : Output). o .answer) first-fit) (ap (λ (o : Output). o .answer) second-fit) 0 (omega arith) refl
+    ∙ phrase-scaled (pos 2) true recording multiplied recorded reached numbers 0 _ _ (two-spans half-s) (two-spans quarter) 2 9 given (ap (λ (o : Output). says (o .answer)) first-fit) (ap (λ (o : Output). says (o .answer)) second-fit) 0 (omega arith) refl
     ∙ ap (λ (o : Output). wordAt (o .words) 0) second-fit

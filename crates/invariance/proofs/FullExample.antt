@@ -32,7 +32,7 @@ use Rattle.last_run.specs.LastRun.{endsBetween, framesOf, frameRun, lastRun}
 use Rattle.fit_to_sound.specs.FitToSound as starts
 use Rattle.fit_to_sound.specs.FitToSound.{fitToSound}
 use Rattle.run_stages.specs.Stages.{snapped, byPhrase, settled, Run, runOn}
-use Rattle.full_run.specs.FullRun.{Input, runOf, runApplies, Output, output, reportOf, fullRun}
+use Rattle.full_run.specs.FullRun.{Input, runOf, runApplies, Output, output, reportOf, fullRun, says}
 use Rattle.full_run.specs.declared.Report.{Report}
 use Rattle.full_run.specs.declared.Answer.the-variants.{Accepted}
 use Rattle.invariance.specs.SameRun.{SameRun}
@@ -147,7 +147,8 @@ second-run =
 -- ---- the theorem holds of them
 example : SameRun first-report second-report (fullRun first-given) (fullRun second-given)
 example =
-    full-run (pos 2) true first-given second-given recorded reached refl refl refl first-report second-report (ap (λ (o : Output). o .answer) first-run) (ap (λ (o : Output). o .answer) second-run)
+    full-run (pos 2) true first-given second-given recorded reached (record { words = refl; spans = refl; phrases = refl }) first-report second-report (ap (λ (o : Output). says (o .answer)) first-run)
+    (ap (λ (o : Output). says (o .answer)) second-run)
 
 -- ---- there is a piece, and the first word ends earlier than it did
 some-piece : getD (fullRun first-given .pieceEnds) 0 0 ≡ 320

@@ -9,44 +9,45 @@ use lib.IntN.{ℤ}
 use lib.ListN.{length, getD, length-map, List·getD-append}
 use lib.Ieee.{Float}
 use Rattle.base.specs.Words.{Words, count, wordsInPlaces}
+use Rattle.base.specs.Refusals.{Says, accepts}
 use Rattle.envelope.specs.Envelope.{levels, floor}
 use Rattle.pieces.specs.Pieces.{Piece, over}
 use Rattle.run_stages.specs.Stages.{Run}
-use Rattle.full_run.specs.FullRun.{Input, runOf, Output, reportOf, accepted, fullRun}
+use Rattle.full_run.specs.FullRun.{Input, runOf, says, Output, reportOf, accepted, fullRun}
 use Rattle.full_run.specs.declared.Report.{Report}
-use Rattle.full_run.specs.declared.Answer.the-variants.{Accepted}
-use Rattle.full_run.proofs.Promises.{accepted-exactly, accepted-answer}
+use Rattle.full_run.proofs.Promises.{accepted-exactly, accepted-leaves, accepted-answer}
 use Rattle.invariance.specs.Scaled.{Recorded, Loudest}
-use Rattle.invariance.specs.SameRun.{SameRun}
+use Rattle.invariance.specs.SameRun.{AlikeRuns, SameRun}
 use Rattle.invariance.proofs.Lists.{pairwise-length}
 use Rattle.invariance.proofs.Rows.{rows-alike}
 
 -- ---- one accepted run: what it gives and leaves
-module _ (i : Input) (r : Report) (h : fullRun i .answer ≡ Accepted r) where
+module _ (i : Input) (r : Report) (h : says (fullRun i .answer) ≡ accepts r) where
   is : fullRun i ≡ accepted i (runOf i)
-  is = accepted-exactly i .0 (accepted-answer i .0 (r, h))
+  is = accepted-leaves i (accepted-answer i .0 (r, h))
 
   reported : r ≡ reportOf (floor (levels (i .samples))) (runOf i)
-  reported = let e : Accepted r ≡ Accepted (reportOf (floor (levels (i .samples))) (runOf i)) = sym h ∙ ap (λ (o : Output). o .answer) is in cc
+  reported =
+      let e : _≡_ {A = Says Report} (accepts r) (accepts (reportOf (floor (levels (i .samples))) (runOf i))) = sym h ∙ accepted-exactly i .0 (accepted-answer i .0 (r, h)) in
+      cc
 
 -- a place below the pieces' count holds what was found
 over-at : (f : Piece → ℕ) (ps : List Piece) (places : List ℕ) (k : ℕ) → k < length ps → getD (over (map f ps) places) k 0 ≡ getD (map f ps) k 0
 over-at f ps places k l = List·getD-append (map f ps) _ 0 k (omega (arith, length-map ps f))
 
-module _ (k : ℤ) (reversed : Bool) (a b : Input) (recorded : Recorded k reversed (a .samples) (b .samples)) (loudest : Loudest (a .samples) (b .samples))
-    (words : a .words ≡ b .words) (spans : a .spans ≡ b .spans) (phrases : a .phrases ≡ b .phrases) where
+module _ (k : ℤ) (reversed : Bool) (a b : Input) (recorded : Recorded k reversed (a .samples) (b .samples)) (loudest : Loudest (a .samples) (b .samples)) (alike : AlikeRuns a b) where
   -- ---- one run is made of both recordings
   one-run : runOf a ≡ runOf b
   unfolding runOf
   one-run =
       let rows = rows-alike k reversed (a .samples) (b .samples) recorded loudest in
-      rw (rows .0, rows .1, pairwise-length recorded, spans, phrases, words)
+      rw (rows .0, rows .1, pairwise-length recorded, alike .spans, alike .phrases, alike .words)
 
   -- the words in their places
   words-left : wordsInPlaces (count (a .words)) (runOf a .words) ≡ wordsInPlaces (count (b .words)) (runOf b .words)
-  words-left = ap (λ (ws : Words). wordsInPlaces (count ws) (runOf a .words)) words ∙ ap (λ (x : Run). wordsInPlaces (count (b .words)) (x .words)) one-run
+  words-left = ap (λ (ws : Words). wordsInPlaces (count ws) (runOf a .words)) (alike .words) ∙ ap (λ (x : Run). wordsInPlaces (count (b .words)) (x .words)) one-run
 
-  module _ (r r′ : Report) (h : fullRun a .answer ≡ Accepted r) (h′ : fullRun b .answer ≡ Accepted r′) where
+  module _ (r r′ : Report) (h : says (fullRun a .answer) ≡ accepts r) (h′ : says (fullRun b .answer) ≡ accepts r′) where
     -- what the reports say, but for the floor
     reports : {A : Type 0} (f : Report → A) (g : Run → A) → ((x : Float) (run : Run) → f (reportOf x run) ≡ g run) → f r ≡ f r′
     reports f g e = ap f (reported a r h) ∙ e _ (runOf a) ∙ ap g one-run ∙ sym (e _ (runOf b)) ∙ sym (ap f (reported b r′ h′))
@@ -74,7 +75,7 @@ module _ (k : ℤ) (reversed : Bool) (a b : Input) (recorded : Recorded k revers
 
 -- ---- and so of two calls of the code, by the equation that its contract ensures
 module _ (k : ℤ) (reversed : Bool) (a b : Input) (recorded : Recorded k reversed (a .samples) (b .samples)) (loudest : Loudest (a .samples) (b .samples))
-    (words : a .words ≡ b .words) (spans : a .spans ≡ b .spans) (phrases : a .phrases ≡ b .phrases) {o o′ : Output} where
-  pub two-runs : o ≡ fullRun a → o′ ≡ fullRun b → (r r′ : Report) → o .answer ≡ Accepted r → o′ .answer ≡ Accepted r′ → SameRun r r′ o o′
+    (alike : AlikeRuns a b) {o o′ : Output} where
+  pub two-runs : o ≡ fullRun a → o′ ≡ fullRun b → (r r′ : Report) → says (o .answer) ≡ accepts r → says (o′ .answer) ≡ accepts r′ → SameRun r r′ o o′
   two-runs c c′ r r′ h h′ =
-      rw (c, c′) (run-alike k reversed a b recorded loudest words spans phrases r r′ (ap (λ (x : Output). x .answer) (sym c) ∙ h) (ap (λ (x : Output). x .answer) (sym c′) ∙ h′))
+      rw (c, c′) (run-alike k reversed a b recorded loudest alike r r′ (ap (λ (x : Output). says (x .answer)) (sym c) ∙ h) (ap (λ (x : Output). says (x .answer)) (sym c′) ∙ h′))

@@ -12,17 +12,18 @@ use lib.IntN.{ℤ}
 use lib.ListN.{length, getD}
 use lib.Ieee.{Float, nan}
 use Rattle.base.specs.Words.{Words, words, Spans, Edges, edges, timesAt, count}
+use Rattle.base.specs.Refusals.{accepts}
 use Rattle.base.specs.declared.Times.{Times}
 use Rattle.base.proofs.Parts.{times-alike}
 use Rattle.limits.specs.declared.Answer.{Answer}
-use Rattle.limits.specs.declared.Answer.the-variants.{Accepted}
+use Rattle.limits.specs.Order.{says}
 use Rattle.word_calls.specs.Calls.{Output, output}
 use Rattle.envelope.specs.Envelope.{levels, floor, loudRow}
 use Rattle.fit_file.specs.FitFile.{membersOf, picked, pickedEdges, fitFile, durationOf, fitFileCall}
 use Rattle.fit_file.proofs.Local.{group-place, place-group}
 use Rattle.fit_file.proofs.Calls as calls
 use Rattle.invariance.specs.Scaled.{Recorded, Loudest}
-use Rattle.invariance.specs.Alike.{Word, wordAt, GivenAlike}
+use Rattle.invariance.specs.Alike.{Word, wordAt, GivenAlike, Spanless}
 use Rattle.invariance.proofs.Lists.{pairwise-length}
 use Rattle.invariance.proofs.Rows.{rows-alike}
 use Rattle.invariance.proofs.Alone.{fitAlone, phrase-alone, spanless-stays}
@@ -46,7 +47,7 @@ word-times ws ws′ i w = times-alike (ap (λ (x : Word). x .start) w) (ap (λ (
 
 -- ---- one call: what it leaves
 module _ (ws : Words) (phrases : List ℕ) (spans : Spans) (levels : List Float) (floor : Float) (samples places : ℕ)
-    (accepted : fitFileCall ws phrases spans levels floor samples places .answer ≡ Accepted) where
+    (accepted : says (fitFileCall ws phrases spans levels floor samples places .answer) ≡ accepts tt) where
   abbrev before : Edges
   before = edges (ws .starts) (ws .ends)
 
@@ -65,13 +66,13 @@ module _ (ws : Words) (phrases : List ℕ) (spans : Spans) (levels : List Float)
   stays i h s = spanless-stays (loudRow floor levels) (durationOf samples) (ws .letters) phrases (edges (spans .starts) (spans .ends)) (length phrases) before i lists h s
 
   -- ---- a word whose number has no span stays as it is
-  pub word-stays : (i : ℕ) → i < length phrases → length (spans .starts) ≤ getD phrases i 0 → wordAt (fitFileCall ws phrases spans levels floor samples places .words) i ≡ wordAt ws i
+  pub word-stays : (i : ℕ) → i < length phrases → Spanless spans phrases i → wordAt (fitFileCall ws phrases spans levels floor samples places .words) i ≡ wordAt ws i
   word-stays i h s = ap (λ (x : Words). wordAt x i) left ∙ word-made ws ws after before i (stays i h s) refl
 
 -- ---- two calls with the same phrase numbers, on recordings equally long of which the same frames are loud
 module _ (phrases : List ℕ) (p : ℕ) (ws ws′ : Words) (spans spans′ : Spans) (levels levels′ : List Float) (floor floor′ : Float) (samples places places′ : ℕ)
     (rows : loudRow floor levels ≡ loudRow floor′ levels′) (alike : GivenAlike phrases p ws ws′ spans spans′)
-    (accepted : fitFileCall ws phrases spans levels floor samples places .answer ≡ Accepted) (accepted′ : fitFileCall ws′ phrases spans′ levels′ floor′ samples places′ .answer ≡ Accepted) where
+    (accepted : says (fitFileCall ws phrases spans levels floor samples places .answer) ≡ accepts tt) (accepted′ : says (fitFileCall ws′ phrases spans′ levels′ floor′ samples places′ .answer) ≡ accepts tt) where
   abbrev n : ℕ
   n = length phrases
 
@@ -124,8 +125,8 @@ module _ (phrases : List ℕ) (p : ℕ) (ws ws′ : Words) (spans spans′ : Spa
 -- ---- DEMAND 3, the fit by phrase: one recording is the other's times 2 ^ k, of either polarity, and each call has its recording's own envelope
 module _ (k : ℤ) (reversed : Bool) (xs ys : List Float) (recorded : Recorded k reversed xs ys) (loudest : Loudest xs ys)
     (phrases : List ℕ) (p : ℕ) (ws ws′ : Words) (spans spans′ : Spans) (places places′ : ℕ) (alike : GivenAlike phrases p ws ws′ spans spans′) where
-  pub phrase-scaled : fitFileCall ws phrases spans (levels xs) (floor (levels xs)) (length xs) places .answer ≡ Accepted
-      → fitFileCall ws′ phrases spans′ (levels ys) (floor (levels ys)) (length ys) places′ .answer ≡ Accepted → (i : ℕ) → i < length phrases → getD phrases i 0 ≡ p
+  pub phrase-scaled : says (fitFileCall ws phrases spans (levels xs) (floor (levels xs)) (length xs) places .answer) ≡ accepts tt
+      → says (fitFileCall ws′ phrases spans′ (levels ys) (floor (levels ys)) (length ys) places′ .answer) ≡ accepts tt → (i : ℕ) → i < length phrases → getD phrases i 0 ≡ p
       → wordAt (fitFileCall ws phrases spans (levels xs) (floor (levels xs)) (length xs) places .words) i
       ≡ wordAt (fitFileCall ws′ phrases spans′ (levels ys) (floor (levels ys)) (length ys) places′ .words) i
   phrase-scaled =
@@ -134,9 +135,9 @@ module _ (k : ℤ) (reversed : Bool) (xs ys : List Float) (recorded : Recorded k
 
   -- ---- and so of two calls of the code, by the equation that its contract ensures
   pub two-calls : {r r′ : Answer} {out out′ : Words} → output r out ≡ fitFileCall ws phrases spans (levels xs) (floor (levels xs)) (length xs) places
-      → output r′ out′ ≡ fitFileCall ws′ phrases spans′ (levels ys) (floor (levels ys)) (length ys) places′ → r ≡ Accepted → r′ ≡ Accepted
+      → output r′ out′ ≡ fitFileCall ws′ phrases spans′ (levels ys) (floor (levels ys)) (length ys) places′ → says r ≡ accepts tt → says r′ ≡ accepts tt
       → (i : ℕ) → i < length phrases → getD phrases i 0 ≡ p → wordAt out i ≡ wordAt out′ i
   two-calls {r} {r′} {out} {out′} c c′ a a′ i h e =
       ap (λ (o : Output). wordAt (o .words) i) c
-      ∙ phrase-scaled (sym (ap (λ (o : Output). o .answer) c) ∙ a) (sym (ap (λ (o : Output). o .answer) c′) ∙ a′) i h e
+      ∙ phrase-scaled (sym (ap (λ (o : Output). says (o .answer)) c) ∙ a) (sym (ap (λ (o : Output). says (o .answer)) c′) ∙ a′) i h e
       ∙ sym (ap (λ (o : Output). wordAt (o .words) i) c′)

@@ -1,6 +1,7 @@
 -- What the program prints for a job file, byte for byte (document 01, "Tally, peak, job file"). Assumes nothing.
-use Prim.Native.Nat.{ℕ}
-use mathlib.Core.Bool.{cond, _&&_}
+use Prim.Native.Nat.{ℕ, _≤_}
+use mathlib.Core.Path.{_≡_}
+use mathlib.Core.Bool.{true, false, cond, _&&_}
 use mathlib.Core.List.{List, _++_}
 use lib.Dec.{eqb, ltb}
 use lib.ListN.{length, replicate}
@@ -44,3 +45,10 @@ printed file =
     (cond (tooMany c) (refusedLine (number Counts))
     (cond (gapless c && eqb (length file) (fileSize c)) (outputText (c .spans) (jobRun file))
     (refusedLine (number Layout))))
+
+-- ---- "a table .. bodies follow in that order from byte 24 without gaps to the file's end"; "at most 512 words, 64 spans, 960,159 samples"
+pub record LaidOut (file : List ℕ) : Type 0 where
+  pub table : 24 ≤ length file
+  pub few : tooMany (contents file) ≡ false
+  pub placed : gapless (contents file) ≡ true
+  pub ends : length file ≡ fileSize (contents file)

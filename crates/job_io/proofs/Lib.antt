@@ -1,4 +1,4 @@
--- Laws of a job read from standard input.
-pub mod Places
+-- Laws of a job that is read.
 pub mod Hearing
-pub mod Files
+pub mod Reading
+pub mod Promises

@@ -1,11 +1,38 @@
--- What the program promises (document 01, "Tally, peak, job file"). What a read gives is in no contract, so that the promise says:
--- there is a file for which document 01 prints this text. Assumes nothing.
-use Prim.Native.Nat.{ℕ}
+-- What the program promises (document 01, "Tally, peak, job file"), of the bytes that stand in its places when it is done. The assumed contract of
+-- C's read says how many bytes came, and nothing of which bytes; so the promise speaks of what came. Assumes nothing.
+use Prim.Native.Nat.{ℕ, _-_, _*_, _/_, _≤_}
+use mathlib.Core.Bool.{Bool}
 use mathlib.Core.Path.{_≡_}
 use mathlib.Core.List.{List}
+use lib.Dec.{ltb}
+use lib.ListN.{take, drop}
+use lib.Ieee.{Float}
+use Rattle.job_layout.specs.Layout.{contents, fileSize, sampleSize}
+use Rattle.job.specs.Came.{Came, wanted}
 use Rattle.job.specs.Printed.{printed}
 
--- ---- A text that document 01 prints for a file.
-pub record Answers (text : List ℕ) : Type 0 where
+-- ---- Samples come 16,000 at a time, and each stretch stands in the same places as the one before.
+abbrev pub stretch : ℕ
+stretch = 16000
+
+-- ---- The byte at which the last stretch of so many samples begins.
+abbrev pub lastFrom : ℕ → ℕ
+lastFrom count = sampleSize * (stretch * ((count - 1) / stretch))
+
+-- ---- The samples' bytes end with those that stand in the stretch's places.
+abbrev pub EndsIn : ℕ → List ℕ → List ℕ → Type 0
+EndsIn count samples buffer = drop (lastFrom count) samples ≡ take (sampleSize * count - lastFrom count) buffer
+
+-- ---- There is a file of the `came` bytes that came: table, words and spans stand in their places, of the samples the levels and the last stretch.
+-- No more bytes came than decide, and fewer only where C's read said that there are no more (`ended`).
+pub record Received (came : ℕ) (ended : Bool) (table bodies buffer : List ℕ) (ls : List Float) : Type 0 where
   pub file : List ℕ
-  pub prints : text ≡ printed file
+  pub parts : Came came table bodies ls file
+  pub last-stretch : fileSize (contents table) ≤ came → EndsIn (contents table .samples) (parts .samples) buffer
+  pub asked : came ≤ wanted (contents table)
+  pub ended-is : ended ≡ ltb came (wanted (contents table))
+
+-- ---- And the text is what document 01 prints for that file.
+pub record Answers (came : ℕ) (ended : Bool) (table bodies buffer : List ℕ) (ls : List Float) (text : List ℕ) : Type 0 where
+  pub received : Received came ended table bodies buffer ls
+  pub prints : text ≡ printed (received .file)

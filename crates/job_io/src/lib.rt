@@ -1,16 +1,11 @@
-// A job read from standard input, its samples a stretch at a time, of which only the levels are kept (document 01, "Tally, peak, job file").
+// A job read from a descriptor, its samples a stretch at a time, of which only the levels are kept (document 01, "Tally, peak, job file").
+// Nothing here decides what is printed: `job::judge` does, which is handed what came.
 ghost use mathlib.Core.Path.{_≡_};
-ghost use mathlib.Core.Bool.{true, false};
-ghost use mathlib.Core.List.{List};
-ghost use Prim.Native.Nat.{ℕ, _+_, _*_, _/_, _<_, _≤_};
+ghost use Prim.Native.Nat.{_+_, _*_, _/_, _≤_};
+ghost use lib.Dec.{ltb};
 ghost use lib.ListN.{length, take};
-ghost use Rattle.job_layout.specs.Layout.{contents};
-ghost use Rattle.job_layout.specs.Parts.{planOf};
-ghost use Rattle.job.specs.Printed.{printed};
-ghost use Rattle.job.specs.Parts.{Holding};
-ghost use Rattle.job_io.specs.Parts.{Stretch, Heard, Within};
-ghost use Rattle.job_io.specs.Answers.{Answers};
-use base::Refusal;
+ghost use Rattle.job_io.specs.Answers.{Received, Answers};
+ghost use Rattle.job_io.specs.Parts.{heardStretch, Heard, Follows};
 use job_layout::Numbers;
 use job_layout::Plan;
 use job_layout::SAMPLE;
@@ -25,179 +20,214 @@ const HOP: usize = 160;
 // Samples of a stretch: 100 frames.
 const STRETCH: usize = 16000;
 
-// Reads until all places are filled or the input ends; gives back how many bytes came.
-fn read(bytes: &mut [u8]) -> usize
-    ensures { λ r. ⌜ r ≤ length (now (bytes .entry)) ⌝ }
+// How many bytes came, and whether C's read said then that there are no more.
+pub struct Got {
+    pub bytes: usize,
+    pub ended: bool,
+}
+
+// The same of a whole job, and how many bytes its text has.
+pub struct Outcome {
+    pub came: usize,
+    pub ended: bool,
+    pub text: usize,
+}
+
+// Reads until all places are filled or the input ends.
+fn read(from: i32, bytes: &mut [u8]) -> Got
+    ensures { λ r. ⌜ (r .bytes ≤ length (now (bytes .entry))) × (r .ended ≡ ltb (r .bytes) (length (now (bytes .entry)))) ⌝ }
 {
     let mut done = 0;
     while done < bytes.len() {
-        let got = libc::read(STDIN_FILENO, &mut bytes[done..]);
+        let got = libc::read(from, &mut bytes[done..]);
         let more = io::count(got, &bytes[done..]);
         if more == 0 {
-            return done;
+            return Got {
+                bytes: done,
+                ended: true,
+            };
         }
         done += more;
     }
-    done
+    Got {
+        bytes: done,
+        ended: false,
+    }
 }
 
-// Reads a stretch of samples and writes their levels; gives back whether all samples came.
-fn hear_stretch(bytes: &mut [u8], samples: &mut [f32], levels: &mut [f64]) -> bool
+// Reads a stretch of samples and, where all its bytes came, writes their levels.
+fn hear_stretch(from: i32, bytes: &mut [u8], samples: &mut [f32], levels: &mut [f64]) -> Got
     requires { ⌜ (length (now bytes) ≡ 4 * length (now samples))
         × ((length (now samples) ≤ 57600000) × (length (now samples) / 160 ≤ length (now levels))) ⌝ }
-    ensures { λ r. ⌜ (r ≡ true → Stretch (length (now (samples .entry))) (now (levels .entry)) (now (levels .exit))) ⌝ }
+    ensures { λ r.
+        ⌜ (now (levels .exit) ≡ heardStretch (r .ended) (now (bytes .exit)) (length (now (samples .entry))) (now (levels .entry)))
+        × ((r .bytes ≤ length (now (bytes .entry))) × (r .ended ≡ ltb (r .bytes) (length (now (bytes .entry))))) ⌝ }
 {
-    if read(bytes) < bytes.len() {
-        return false;
+    let got = read(from, bytes);
+    if got.ended {
+        return got;
     }
     job::hear(bytes, samples, levels);
-    true
+    got
 }
 
-// Reads `count` samples, a stretch at a time, and writes the level of each frame to its place; gives back whether all samples came.
-fn hear(count: usize, bytes: &mut [u8], samples: &mut [f32], levels: &mut [f64]) -> bool
+// Reads `count` samples, a stretch at a time, and writes the level of each frame to its place.
+fn hear(from: i32, count: usize, bytes: &mut [u8], samples: &mut [f32], levels: &mut [f64]) -> Got
     requires { ⌜ (count ≤ 960159) × ((length (now levels) ≡ count / 160) × ((64000 ≤ length (now bytes)) × (16000 ≤ length (now samples)))) ⌝ }
-    ensures { λ r. ⌜ (r ≡ true → Heard count (now (levels .exit))) × (r ≡ false → 0 < count) ⌝ }
+    ensures { λ r. ⌜ Heard count (r .bytes) (r .ended) (now (bytes .exit)) (now (levels .exit)) ⌝ }
 {
+    let mut came = 0;
     let mut done = 0;
     while done < count {
         let n = base::least(count - done, STRETCH);
         let size = SAMPLE * n;
         let k = done / HOP;
-        if !hear_stretch(&mut bytes[0..size], &mut samples[0..n], &mut levels[k..]) {
-            return false;
+        let got = hear_stretch(
+            from,
+            &mut bytes[0..size],
+            &mut samples[0..n],
+            &mut levels[k..],
+        );
+        came += got.bytes;
+        if got.ended {
+            return Got {
+                bytes: came,
+                ended: got.ended,
+            };
         }
         done += n;
     }
-    true
+    Got {
+        bytes: came,
+        ended: false,
+    }
 }
 
-// Writes what is printed for a job whose layout holds; gives back how many bytes that has.
-fn settle(bodies: &[u8], levels: &[f64], numbers: Numbers, out: &mut [u8]) -> usize
-    requires { ⌜ (28 * numbers .words + 20 * numbers .spans ≤ length (now bodies))
-        × ((length (now levels) ≡ numbers .samples / 160)
-        × ((numbers .words ≤ 512) × ((numbers .spans ≤ 64) × (33088 ≤ length (now out))))) ⌝ }
-    ensures { λ r.
-        ⌜ ((file : List ℕ)
-        → Holding file (now (bodies .entry)) (now (levels .entry)) (numbers .words) (numbers .spans) (numbers .samples)
-        → take r (now (out .exit)) ≡ printed file)
-        × (r ≤ length (now (out .entry))) ⌝ }
-{
-    let w = numbers.words;
-    let s = numbers.spans;
-    let mut starts = [0.0; 512];
-    let mut ends = [0.0; 512];
-    let mut letters = [0u32; 512];
-    let mut units = [0u32; 512];
-    let mut keys = [0u32; 512];
-    let mut span_starts = [0.0; 64];
-    let mut span_ends = [0.0; 64];
-    let mut counts = [0u32; 64];
-    let mut phrases = [0u32; 512];
-    let mut piece_starts = [0usize; 5];
-    let mut piece_ends = [0usize; 5];
-    let mut work_starts = [0.0; 512];
-    let mut work_ends = [0.0; 512];
-    let mut work_letters = [0u32; 512];
-    job::answer(
-        bodies,
-        levels,
-        numbers.samples,
-        &mut starts[0..w],
-        &mut ends[0..w],
-        &mut letters[0..w],
-        &mut units[0..w],
-        &mut keys[0..w],
-        &mut span_starts[0..s],
-        &mut span_ends[0..s],
-        &mut counts[0..s],
-        &mut phrases[0..w],
-        &mut piece_starts[0..5],
-        &mut piece_ends[0..5],
-        &mut work_starts[0..w],
-        &mut work_ends[0..w],
-        &mut work_letters[0..w],
-        out,
-    )
-}
-
-// Reads words, spans and samples of a job whose table holds, and writes what is printed for it; gives back how many bytes that has.
-fn take_bodies(
+// Reads words, spans and samples of a job whose table holds and, where they came, a byte more.
+fn read_bodies(
+    from: i32,
     numbers: Numbers,
     bodies: &mut [u8],
     bytes: &mut [u8],
     samples: &mut [f32],
     levels: &mut [f64],
-    out: &mut [u8],
-) -> usize
+) -> Got
     requires { ⌜ (length (now bodies) ≡ 28 * numbers .words + 20 * numbers .spans)
+        × ((length (now bodies) ≤ 15616)
+        × ((numbers .samples ≤ 960159)
         × ((length (now levels) ≡ numbers .samples / 160)
-        × ((64000 ≤ length (now bytes)) × ((16000 ≤ length (now samples)) × Within numbers (length (now out))))) ⌝ }
-    ensures { λ r.
-        ⌜ ((table : List ℕ)
-        → length table ≡ 24
-        → planOf (contents table) ≡ Plan.Holds numbers
-        → Answers (take r (now (out .exit))))
-        × (r ≤ length (now (out .entry))) ⌝ }
+        × ((64000 ≤ length (now bytes)) × (16000 ≤ length (now samples)))))) ⌝ }
+    ensures { λ r. ⌜ Follows (numbers .samples) (r .bytes) (r .ended) (now (bodies .exit)) (now (bytes .exit)) (now (levels .exit)) ⌝ }
 {
-    if read(bodies) < bodies.len() {
-        return job_text::put_refused(out, 0, base::number(Refusal::Layout));
+    let rows = read(from, bodies);
+    if rows.ended {
+        return rows;
     }
-    if !hear(numbers.samples, bytes, samples, levels) {
-        return job_text::put_refused(out, 0, base::number(Refusal::Layout));
+    let heard = hear(from, numbers.samples, bytes, samples, levels);
+    let came = rows.bytes + heard.bytes;
+    if heard.ended {
+        return Got {
+            bytes: came,
+            ended: heard.ended,
+        };
     }
     let mut more = [0u8; 1];
-    if read(&mut more) != 0 {
-        return job_text::put_refused(out, 0, base::number(Refusal::Layout));
+    let last = read(from, &mut more);
+    Got {
+        bytes: came + last.bytes,
+        ended: last.ended,
     }
-    settle(bodies, levels, numbers, out)
 }
 
-// The same, in places of its own.
-fn fit_bodies(numbers: Numbers, out: &mut [u8]) -> usize
-    requires { ⌜ Within numbers (length (now out)) ⌝ }
-    ensures { λ r.
-        ⌜ ((table : List ℕ)
-        → length table ≡ 24
-        → planOf (contents table) ≡ Plan.Holds numbers
-        → Answers (take r (now (out .exit))))
-        × (r ≤ length (now (out .entry))) ⌝ }
+// Reads a job as far as it decides what is printed: its table, and what the table says that follows.
+fn read_job(
+    from: i32,
+    table: &mut [u8],
+    bodies: &mut [u8],
+    bytes: &mut [u8],
+    samples: &mut [f32],
+    levels: &mut [f64],
+) -> Got
+    requires { ⌜ (length (now table) ≡ 24)
+        × ((15616 ≤ length (now bodies))
+        × ((64000 ≤ length (now bytes)) × ((16000 ≤ length (now samples)) × (6000 ≤ length (now levels))))) ⌝ }
+    ensures { λ r. ⌜ Received (r .bytes) (r .ended) (now (table .exit)) (now (bodies .exit)) (now (bytes .exit)) (now (levels .exit)) ⌝ }
 {
-    let size = WORD * numbers.words + SPAN * numbers.spans;
-    let frames = numbers.samples / HOP;
+    let head = read(from, table);
+    if head.ended {
+        return head;
+    }
+    let plan = job_layout::read_table(table);
+    match plan {
+        Plan::Breaks(_) => head,
+        Plan::Holds(numbers) => {
+            let size = WORD * numbers.words + SPAN * numbers.spans;
+            let frames = numbers.samples / HOP;
+            let rest = read_bodies(
+                from,
+                numbers,
+                &mut bodies[0..size],
+                bytes,
+                samples,
+                &mut levels[0..frames],
+            );
+            Got {
+                bytes: head.bytes + rest.bytes,
+                ended: rest.ended,
+            }
+        }
+    }
+}
+
+// Reads a job, and writes what is printed for what came.
+pub fn fit(
+    from: i32,
+    table: &mut [u8],
+    bodies: &mut [u8],
+    bytes: &mut [u8],
+    samples: &mut [f32],
+    levels: &mut [f64],
+    out: &mut [u8],
+) -> Outcome
+    requires { ⌜ (length (now table) ≡ 24)
+        × ((15616 ≤ length (now bodies))
+        × ((64000 ≤ length (now bytes))
+        × ((16000 ≤ length (now samples)) × ((6000 ≤ length (now levels)) × (33088 ≤ length (now out)))))) ⌝ }
+    ensures { λ r.
+        ⌜ Answers (r .came) (r .ended) (now (table .exit)) (now (bodies .exit)) (now (bytes .exit)) (now (levels .exit)) (take (r .text) (now (out .exit)))
+        × (r .text ≤ length (now (out .entry))) ⌝ }
+{
+    let got = read_job(from, table, bodies, bytes, samples, levels);
+    let text = job::judge(got.bytes, table, bodies, levels, out);
+    Outcome {
+        came: got.bytes,
+        ended: got.ended,
+        text,
+    }
+}
+
+// Reads a job from a descriptor and prints what document 01 prints for it.
+pub fn run_from(from: i32) {
+    let mut table = [0u8; 24];
     let mut bodies = [0u8; 15616];
     let mut bytes = [0u8; 64000];
     let mut samples = [0.0f32; 16000];
     let mut levels = [0.0; 6000];
-    take_bodies(
-        numbers,
-        &mut bodies[0..size],
+    let mut out = [0u8; 33088];
+    let fit = fit(
+        from,
+        &mut table,
+        &mut bodies,
         &mut bytes,
         &mut samples,
-        &mut levels[0..frames],
-        out,
-    )
-}
-
-// Reads a job from standard input and writes what is printed for it; gives back how many bytes that has.
-pub fn fit(out: &mut [u8]) -> usize
-    requires { ⌜ 33088 ≤ length (now out) ⌝ }
-    ensures { λ r. ⌜ Answers (take r (now (out .exit))) × (r ≤ length (now (out .entry))) ⌝ }
-{
-    let mut table = [0u8; 24];
-    if read(&mut table) < TABLE {
-        return job_text::put_refused(out, 0, base::number(Refusal::Layout));
-    }
-    let plan = job_layout::read_table(&table);
-    match plan {
-        Plan::Breaks(why) => job_text::put_refused(out, 0, base::number(why)),
-        Plan::Holds(numbers) => fit_bodies(numbers, out),
-    }
+        &mut levels,
+        &mut out,
+    );
+    let n = fit.text;
+    io::write_all(STDOUT_FILENO, &out[0..n]);
 }
 
 // Reads a job from standard input and prints what document 01 prints for it.
 pub fn run() {
-    let mut out = [0u8; 33088];
-    let n = fit(&mut out);
-    io::write_all(STDOUT_FILENO, &out[0..n]);
+    run_from(STDIN_FILENO);
 }

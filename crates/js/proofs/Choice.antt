@@ -11,8 +11,9 @@ use lib.Ieee.Bits.{is-false}
 use lib.Ieee.Compare.{differs-from-itself}
 use Rattle.base.proofs.Signs.{no-nan}
 use Rattle.js.specs.Js.{negative, under, jsMax}
+use Rattle.js.specs.Sizes.{Number}
 use Rattle.js.proofs.Patterns.{sign-bit}
-use Rattle.js.proofs.Order.{Number, under-total}
+use Rattle.js.proofs.Order.{under-total}
 
 -- ---- two that compare equal are numbers, and neither is below the other
 pub eq-numbers : (x y : Float) → eq x y ≡ true → T (not (isNan x)) × T (not (isNan y))

@@ -18,6 +18,7 @@ use Rattle.base.proofs.Compare.{ltb-scale, eqb-scale}
 use Rattle.base.proofs.Signs.{neg-neg}
 use Rattle.base.proofs.Units.{in-units, in-range, same-value}
 use Rattle.js.specs.Js.{negative, under, jsMax}
+use Rattle.js.specs.Sizes.{Number}
 
 -- ---- comparing in units: a * c is m * k, and b * c is n * k
 module _ (a b m n c k : ℕ) (C : 0 < c) (K : 0 < k) (ea : a * c ≡ m * k) (eb : b * c ≡ n * k) where
@@ -241,10 +242,6 @@ module _ (f : Format) where
       go : (t : Bool) → ltb p q ≡ t → Rank (cond t y x) (max p q)
       go true t = subst (Rank y) (omega (arith, ltb-true p q t)) b
       go false t = subst (Rank x) (omega (arith, ltb-false p q t)) a
-
--- ---- the laws, of numbers of the format that are not NaN
-abbrev pub Number : Float → Type 0
-Number x = T (fits binary64 x) × T (not (isNan x))
 
 ranked : (x : Float) → Number x → (r : ℕ) × Rank binary64 x r
 ranked x n = has-rank binary64 x (n .0) (n .1)

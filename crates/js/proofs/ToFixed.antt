@@ -18,6 +18,7 @@ use Rattle.base.proofs.Units.{pow-split, gap, in-range, same-value, in-units}
 use Rattle.base.proofs.Signs.{round-neg, round-zero}
 use Rattle.base.proofs.Near.{round-near}
 use Rattle.js.specs.Js.{nearestUp, jsToFixed}
+use Rattle.js.specs.Sizes.{apart, Vast}
 
 -- ---- the whole number nearest to a / b, of two the larger: half is added, and what is over a whole number dropped
 nearestUp-div : (a b : ℕ) → 0 < b → nearestUp a b ≡ (a * 2 + b) / (b * 2)
@@ -65,10 +66,6 @@ nearestUp-bounds a b B =
 
 nearestUp-reaches : (a b w : ℕ) → 0 < b → w * b ≤ a → w ≤ nearestUp a b
 nearestUp-reaches a b w B h = rw (nearestUp-div a b B) (le-div-iff-mul-le {k = b * 2} {x = w} {y = a * 2 + b} (omega arith) .1 (let e : w * (b * 2) ≡ w * b * 2 = sym (mul-assoc w b 2) in omega arith))
-
--- how far two numbers lie apart
-abbrev pub apart : ℕ → ℕ → ℕ
-apart x y = (x - y) + (y - x)
 
 -- ---- "an integer for which n / 10^f - x is as close to zero as possible. If there are two such n, pick the larger n": no whole number c lies
 -- closer to a / b, and one that lies as close is not larger.
@@ -284,12 +281,6 @@ fixed-neither (fin true (suc m) e) l h =
     absurd (let k = ltb-false 0 (suc m * up e * 1 + 0 * 1 * down e) l in let p : 0 < suc m * up e = mul-pos (omega arith) (up-pos e) in omega arith)
 fixed-neither (fin false (suc m) e) l h =
     absurd (let k = ltb-false (0 * 1 * down e) (suc m * up e * 1) h in let p : 0 < suc m * up e = mul-pos (omega arith) (up-pos e) in omega (arith, zero-mul (down e)))
-
--- ---- "NaN, infinities and |x| of 2^49 or more return x."
-abbrev pub Vast : Float → Type 0
-Vast nan = Unit {0}
-Vast (inf s) = Unit {0}
-Vast (fin s m e) = 2 ^ 49 * down e ≤ m * up e
 
 toFixed-plus : (m : ℕ) (e : ℤ) → T (fits binary64 (fin false m e)) → 2 ^ 49 * down e ≤ m * up e → jsToFixed (fin false m e) ≡ fin false m e
 toFixed-plus m e t v =

@@ -4,6 +4,7 @@ use Prim.Native.Nat.{ℕ, zero, suc, _+_, _-_, _<_, _≤_}
 use mathlib.Core.Bool.{Bool, true, false, true≢false}
 use mathlib.Core.List.{List}
 use mathlib.Core.Logic.{_↔_, inl, inr}
+use mathlib.Core.Option as option
 use mathlib.Core.Path.{_≡_, refl, sym, ap, _∙_, subst}
 use native.Mathlib.Omega.{arith}
 use borrow.Author.Tests.{ltb-true, ltb-false, le-ltb}
@@ -15,10 +16,11 @@ use Rattle.base.proofs.Loops.{back-next, back-stop, back-done}
 use Rattle.frames.specs.Frames.{frameSeconds}
 use Rattle.envelope.specs.Envelope.{loud}
 use Rattle.envelope.proofs.Scan.{one-less}
-use Rattle.last_run.specs.LastRun.{Ends, backTurn, endsBetween, framesOf, frameRun, secondsOf, lastRun}
+use Rattle.last_run.specs.LastRun.{Ends, backTurn, endsBetween, framesOf, frameRun, secondsOf, lastRun, times}
 use Rattle.last_run.specs.Exact.{NoneLoud, RunIs, NoSound, SoundIs, firstFrame, endFrame}
 use Rattle.last_run.specs.declared.FrameRun.{FrameRun}
 use Rattle.last_run.specs.declared.FrameRun.the-variants.{Frames, NoFrames}
+use Rattle.last_run.specs.declared.Run.{Run}
 use Rattle.last_run.specs.declared.Run.the-variants.{Sound, Nothing}
 use Rattle.last_run.proofs.Steps.{nothing, met, minus-above, ends-nat, framesOf-none, framesOf-under, framesOf-from}
 use Rattle.last_run.proofs.Between.{lastRun-is, seconds-found}
@@ -234,10 +236,19 @@ module _ (row : List Bool) (lo hi : ℕ) where
       from e (short a b s m f) = apart e f
       from e (long a b s m f) = let x = sym f ∙ e in let p : a ≡ first = cc in let q : b ≡ last = cc in let v : RunIs row lo hi a b × (3 ≤ b - a) = (s, m) in rw (p, q) at v
 
+-- a run by its two times
+no-times : (r : Run) → times r ≡ option.none → r ≡ Nothing
+no-times Nothing h = refl
+no-times (Sound s e) h = absurd (let z : _≡_ {A = ℕ} 0 1 = cc in omega arith)
+
+two-times : (r : Run) (start end : Float) → times r ≡ option.some (start, end) → r ≡ Sound start end
+two-times Nothing start end h = absurd (let z : _≡_ {A = ℕ} 0 1 = cc in omega arith)
+two-times (Sound s e) start end h = let p : _≡_ {A = Float × Float} (s, e) (start, end) = cc in ap (λ (t : Float × Float). Sound (t .0) (t .1)) p
+
 -- ---- the same, between two times
 module _ (row : List Bool) (from to : Float) where
-  pub nothing-exactly : NoSound row (firstFrame from) (endFrame row to) ↔ (lastRun row from to ≡ Nothing)
-  nothing-exactly = (
+  nothing-run : NoSound row (firstFrame from) (endFrame row to) ↔ (lastRun row from to ≡ Nothing)
+  nothing-run = (
     λ h. lastRun-is row from to ∙ ap secondsOf (none-exactly row (firstFrame from) (endFrame row to) .0 h),
     λ e. none-exactly row (firstFrame from) (endFrame row to) .1 (go (frameRun row (pos (firstFrame from)) (pos (endFrame row to))) (sym (lastRun-is row from to) ∙ e)),
   )
@@ -246,8 +257,8 @@ module _ (row : List Bool) (from to : Float) where
       go (Frames a b) h = absurd (let z : _≡_ {A = ℕ} 0 1 = cc in omega arith)
       go NoFrames h = refl
 
-  pub sound-exactly : (start end : Float) → SoundIs row (firstFrame from) (endFrame row to) start end ↔ (lastRun row from to ≡ Sound start end)
-  sound-exactly start end = (there, λ e. back (frameRun row (pos (firstFrame from)) (pos (endFrame row to))) refl (sym (lastRun-is row from to) ∙ e))
+  sound-run : (start end : Float) → SoundIs row (firstFrame from) (endFrame row to) start end ↔ (lastRun row from to ≡ Sound start end)
+  sound-run start end = (there, λ e. back (frameRun row (pos (firstFrame from)) (pos (endFrame row to))) refl (sym (lastRun-is row from to) ∙ e))
     where
       there : SoundIs row (firstFrame from) (endFrame row to) start end → lastRun row from to ≡ Sound start end
       there (first, (last, (h, (p, q)))) = lastRun-is row from to ∙ sym (seconds-found first last (found-exactly row (firstFrame from) (endFrame row to) first last .0 h) p q)
@@ -258,3 +269,10 @@ module _ (row : List Bool) (from to : Float) where
           let q : end ≡ frameSeconds (pos (b + 1)) = cc in
           (a, (b, (found-exactly row (firstFrame from) (endFrame row to) a b .1 f, (p, q))))
       back NoFrames f e = absurd (let z : _≡_ {A = ℕ} 0 1 = cc in omega arith)
+
+  -- ---- no sound is given exactly when there is none, and a start and an end exactly when they are those of the last run
+  pub nothing-exactly : NoSound row (firstFrame from) (endFrame row to) ↔ (times (lastRun row from to) ≡ option.none)
+  nothing-exactly = (λ h. ap times (nothing-run .0 h), λ e. nothing-run .1 (no-times _ e))
+
+  pub sound-exactly : (start end : Float) → SoundIs row (firstFrame from) (endFrame row to) start end ↔ (times (lastRun row from to) ≡ option.some (start, end))
+  sound-exactly start end = (λ h. ap times (sound-run start end .0 h), λ e. sound-run start end .1 (two-times _ start end e))

@@ -1,7 +1,9 @@
 -- fit.rs, last_run, line by line, and the call. A `row` says which frames are loud; frames are whole numbers, as there. Assumes nothing.
-use Prim.Native.Nat.{ℕ}
+use Prim.Native.Nat.{ℕ, _/_, _≤_}
+use mathlib.Core.Path.{_≡_}
 use mathlib.Core.Bool.{Bool, cond, _&&_, _||_}
 use mathlib.Core.List.{List, [], _∷_}
+use mathlib.Core.Option.{Option, none, some}
 use lib.IntN.{ℤ, pos, negsuc, _+ℤ_, _-ℤ_}
 use lib.Signed.{ltZ, nonNeg}
 use lib.ListN.{length}
@@ -9,11 +11,12 @@ use lib.Ieee.{Float}
 use Rattle.base.specs.Whole.{toNat, minZ}
 use Rattle.base.specs.Loop.{Turn, on, out, rangeBack}
 use Rattle.base.specs.Words.{endSilence}
-use Rattle.base.specs.Refusals.{Test, test, first}
+use Rattle.base.specs.Refusals.{number, Test, test, first, Says, accepts, refuses}
 use Rattle.base.specs.declared.Refusal.the-variants.{Time, Counts, Levels}
 use Rattle.base.specs.declared.Rule.{Rule}
 use Rattle.base.specs.declared.Rule.the-variants.{Fine, Breaks}
 use Rattle.limits.specs.Limits.{badTime, manySamples, otherLevels}
+use Rattle.word_calls.specs.Within.{Within}
 use Rattle.frames.specs.Frames.{frameFromZero, frameSeconds}
 use Rattle.envelope.specs.Envelope.{loud, loudRow}
 use Rattle.last_run.specs.declared.FrameRun.{FrameRun}
@@ -75,3 +78,17 @@ byRule (Breaks r) run = Refused r
 
 unfoldable pub lastRunCall : List Float → Float → ℕ → Float → Float → Answer
 lastRunCall levels floor count from to = byRule (first (tests (length levels) count from to)) (lastRun (loudRow floor levels) from to)
+
+-- ---- "How much is taken": samples and both times within the limits, and as many levels as samples / 160, rounded down.
+abbrev pub Taken : ℕ → ℕ → Float → Float → Type 0
+Taken levels count from to = (count ≤ 57600000) × ((Within from × Within to) × (levels ≡ count / 160))
+
+-- ---- "either a start and an end in seconds or no sound": the two times of each case, or that there are none.
+abbrev pub times : Run → Option (Float × Float)
+times (Sound start end) = some (start, end)
+times Nothing = none
+
+-- ---- Accepted, these are given back; "A refusal returns its number only".
+abbrev pub says : Answer → Says (Option (Float × Float))
+says (Accepted run) = accepts (times run)
+says (Refused r) = refuses (number r)

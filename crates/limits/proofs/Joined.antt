@@ -4,11 +4,10 @@ use mathlib.Core.Path.{_≡_, refl, ap, _∙_}
 use mathlib.Core.Bool.{Bool, true, false, _&&_, _||_, true≢false}
 use mathlib.Core.Logic.{_↔_}
 use lib.Dec.{eqb}
-use Rattle.base.specs.Refusals.{number}
+use Rattle.base.specs.Refusals.{number, None}
 use Rattle.base.specs.declared.Refusal.{Refusal}
 use Rattle.base.specs.declared.Refusal.the-variants.{Time, Letters, Lengths, Counts, Layout, Places, Levels, Cut}
 use Rattle.base.specs.declared.Rule.{Rule}
-use Rattle.base.proofs.First.{None}
 use Rattle.limits.specs.Order.{when, also, inOrder, chain}
 use Rattle.limits.specs.declared.Applies.{Applies}
 

@@ -8,7 +8,7 @@ use lib.ListN.{length, take, drop, getD}
 use lib.Ieee.{Float, nan}
 use Rattle.base.specs.Words.{Words, count}
 use Rattle.base.proofs.Loops.{each-holds}
-use Rattle.word_calls.proofs.Within.{Within, WordsWithin}
+use Rattle.word_calls.specs.Within.{Within, WordsWithin}
 use Rattle.loops.specs.Loops.{maxRun, drained, drain, collapseLoops}
 use Rattle.loops.specs.Parts.{goesOn, turnWords, passWords, loopWords}
 use Rattle.loops.proofs.Found.{loops-words, never-more}

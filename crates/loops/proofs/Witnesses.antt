@@ -1,6 +1,6 @@
 -- Inputs for each answer of `collapse_loops`: one that is accepted, with all that it leaves, and one for each refusal. Assumes nothing.
 use Prim.Native.Nat.{ℕ, _<_}
-use mathlib.Core.Path.{_≡_, refl, _∙_}
+use mathlib.Core.Path.{_≡_, refl, ap, _∙_}
 use mathlib.Core.Bool.{true, false}
 use mathlib.Core.List.{[], _∷_}
 use borrow.Author.Tests.{eq-eqb, lt-ltb}
@@ -9,15 +9,15 @@ use lib.IntN.{pos}
 use lib.ListN.{length, replicate, length-replicate}
 use lib.Ieee.{Float, nan, fin, le, lt, eq, ofBits}
 use Rattle.base.specs.Loop.{each, run}
-use Rattle.base.specs.Refusals.{first}
+use Rattle.base.specs.Refusals.{first, refuses, saysOf}
 use Rattle.base.specs.Words.{Words, words, wordsInPlaces}
-use Rattle.base.specs.declared.Refusal.the-variants.{Lengths, Counts, Time, Letters}
-use Rattle.base.proofs.First.{first-skip, first-here, breaks-first}
+use Rattle.base.specs.declared.Refusal.the-variants.{Lengths, Time, Letters}
+use Rattle.base.proofs.First.{first-skip, first-here, says-first}
 use Rattle.limits.specs.Limits.{timeOf, any}
 use Rattle.limits.specs.Order.{when, also, inOrder, chain}
 use Rattle.word_calls.specs.Calls.{uneven, ofWords}
 use Rattle.loops.specs.declared.Answer.the-variants.{Accepted, Refused}
-use Rattle.loops.specs.Loops.{equal, same, copiesEnd, isLoop, loopTurn, pass, collapseLoops, output, collapseCall}
+use Rattle.loops.specs.Loops.{equal, same, copiesEnd, isLoop, loopTurn, pass, collapseLoops, output, says, collapseCall}
 use Rattle.loops.specs.Parts.{onlyKeys}
 use Rattle.loops.proofs.Promises.{refused-exactly}
 
@@ -47,16 +47,16 @@ witness-letters = refl
 alike : ℕ → Words
 alike n = words (replicate n (sec 0)) (replicate n (sec 1)) (replicate n 1) (replicate n 1) (replicate n 1)
 
-too-many : (n : ℕ) → 4096 < n → collapseCall (alike n) .answer ≡ Refused Counts
+too-many : (n : ℕ) → 4096 < n → says (collapseCall (alike n) .answer) ≡ refuses 4
 unfolding alike inOrder ofWords also when uneven
 too-many n h =
     let ones : length (replicate {A = ℕ} n 1) ≡ n = length-replicate n 1 in
     let even : uneven (length (alike n .starts)) (length (alike n .ends)) (length (alike n .letters)) (length (alike n .units)) (length (alike n .keys)) ≡ false =
     rw (length-replicate n (sec 0), length-replicate n (sec 1), ones, eq-eqb n n refl) in
     let long : ltb 4096 (length (alike n .starts)) ≡ true = rw (length-replicate n (sec 0)) (lt-ltb 4096 n h) in
-    refused-exactly (alike n) Counts .0 (breaks-first Counts (inOrder (ofWords (alike n))) (first-skip _ _ (rw even) ∙ first-here _ _ (rw long)))
+    refused-exactly (alike n) 4 .0 (says-first {A = ℕ} 0 4 (inOrder (ofWords (alike n))) (ap (saysOf {A = ℕ} 0) (first-skip _ _ (rw even) ∙ first-here _ _ (rw long))))
 
-witness-counts : (ws : Words) × (collapseCall ws .answer ≡ Refused Counts)
+witness-counts : (ws : Words) × (says (collapseCall ws .answer) ≡ refuses 4)
 witness-counts = (alike 4097, too-many 4097 (lit< tt))
 
 -- ---- Longer runs are looked for last, and shorter ones not again: three copies of 1 2 1 are found, and what they leave has three of 1 2.

@@ -7,6 +7,7 @@ use lib.Dec.{eqb, leb}
 use lib.ListN.{take, drop}
 use Rattle.base.specs.Loop.{Turn, on, out, run, each}
 use Rattle.base.specs.Words.{Words, words, count, wordsInPlaces}
+use Rattle.base.specs.Refusals.{number, Says, accepts, refuses}
 use Rattle.base.specs.declared.Rule.{Rule}
 use Rattle.base.specs.declared.Rule.the-variants.{Fine, Breaks}
 use Rattle.limits.specs.Order.{chain}
@@ -78,6 +79,11 @@ unfoldable pub collapseLoops : Words → Collapsed
 collapseLoops ws = each pass maxRun 1 (record { words = ws; found = false })
 
 -- ======== What the public call answers and leaves: "the new count, and a yes exactly when it is smaller".
+
+-- ---- "Given back: the new count, and a yes exactly when it is smaller (`found`)"; "A refusal returns its number only".
+abbrev pub says : Answer → Says (ℕ × Bool)
+says (Accepted n found) = accepts (n, found)
+says (Refused r) = refuses (number r)
 
 pub record Output : Type 0 where
   pub answer : Answer

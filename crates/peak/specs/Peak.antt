@@ -1,12 +1,14 @@
 -- transcriber.rs, peak: the largest magnitude of the samples that a word spans. Assumes nothing.
 use mathlib.Core.Bool.{false, _||_}
 use mathlib.Core.List.{List, [], _∷_}
+use Prim.Native.Nat.{ℕ}
 use lib.IntN.{ℤ, pos, negsuc}
+use lib.Signed.{_≤ℤ_, _<ℤ_}
 use lib.ListN.{length, getD}
 use lib.Ieee.{Float, nan, inf, fin, binary64, mul, ofBits}
 use Rattle.base.specs.Whole.{minZ}
 use Rattle.base.specs.Loop.{Turn, on, range}
-use Rattle.base.specs.Refusals.{Test, test, first}
+use Rattle.base.specs.Refusals.{number, Test, test, first, Says, accepts, refuses}
 use Rattle.base.specs.declared.Refusal.the-variants.{Counts, Time}
 use Rattle.base.specs.declared.Rule.{Rule}
 use Rattle.base.specs.declared.Rule.the-variants.{Fine, Breaks}
@@ -31,10 +33,20 @@ sampleAt samples (negsuc i) = nan
 abbrev pub peakTurn : List Float → ℤ → Float → Turn Float
 peakTurn samples i p = on (jsMax p (sampleAt samples i))
 
--- ---- let from = (w.start * RATE).floor() as i64; let end = (pcm.len() as i64).min((w.end * RATE).ceil() as i64); for i in from..end
+-- ---- let from = (w.start * RATE).floor() as i64; let end = (pcm.len() as i64).min((w.end * RATE).ceil() as i64);
+abbrev pub firstSample : Float → ℤ
+firstSample start = floorI64 (mul binary64 start rate)
+
+abbrev pub endSample : List Float → Float → ℤ
+endSample samples end = minZ (pos (length samples)) (ceilI64 (mul binary64 end rate))
+
+-- ---- for i in from..end
 unfoldable pub wordPeak : List Float → Float → Float → Float
-wordPeak samples start end =
-    range (peakTurn samples) (floorI64 (mul binary64 start rate)) (minZ (pos (length samples)) (ceilI64 (mul binary64 end rate))) (ofBits binary64 0)
+wordPeak samples start end = range (peakTurn samples) (firstSample start) (endSample samples end) (ofBits binary64 0)
+
+-- ---- Sample i is in that range.
+abbrev pub Spanned : List Float → Float → Float → ℕ → Type 0
+Spanned samples start end i = (firstSample start ≤ℤ pos i) × (pos i <ℤ endSample samples end)
 
 -- ---- Refusals 4 and 1.
 unfoldable pub tests : List Float → Float → Float → List Test
@@ -48,3 +60,8 @@ byRule (Breaks r) samples start end = Refused r
 -- ---- What the call answers.
 unfoldable pub peakCall : List Float → Float → Float → Level
 peakCall samples start end = byRule (first (tests samples start end)) samples start end
+
+-- ---- Accepted, the peak is given back; "A refusal returns its number only".
+abbrev pub says : Level → Says Float
+says (Accepted v) = accepts v
+says (Refused r) = refuses (number r)

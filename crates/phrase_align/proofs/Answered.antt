@@ -10,27 +10,27 @@ use lib.ListN.{getD, length, drop, length-append, List·getD-append, take, repli
 use lib.Seq.{length-take-le, drop-at}
 use lib.Ieee.{nan}
 use Rattle.base.specs.Words.{Words, Spans, count, inPlaces, zeroF, wordsInPlaces}
+use Rattle.base.specs.Refusals.{accepts}
 use Rattle.word_calls.proofs.Within.{one-length}
 use Rattle.share.specs.Share.{sum}
 use Rattle.spread.specs.Spread.{inside}
-use Rattle.phrase_align.specs.PhraseAlign.{alignPhrases, inTheirPlaces, alignCall}
-use Rattle.phrase_align.specs.declared.Answer.the-variants.{Accepted}
+use Rattle.phrase_align.specs.PhraseAlign.{alignPhrases, inTheirPlaces, says, alignCall}
+use Rattle.phrase_align.specs.Placed.{wordTimes, PlacedWord, Leaves}
 use Rattle.phrase_align.proofs.Calls.{accepted-answer}
-use Rattle.phrase_align.proofs.Facts.{wordTimes, PlacedWord, placed-after, count-least}
+use Rattle.phrase_align.proofs.Facts.{placed-after, count-least}
 
-module _ (ws : Words) (spans : Spans) (phrases : List ℕ) (n : ℕ) (says : alignCall ws spans phrases .answer ≡ Accepted n) where
+module _ (ws : Words) (spans : Spans) (phrases : List ℕ) (n : ℕ) (given : says (alignCall ws spans phrases .answer) ≡ accepts n) where
   -- ---- "The new count is given back."
   pub count-given : n ≡ min (sum (spans .counts)) (count ws)
   count-given =
-      let a = accepted-answer ws spans phrases n says in
+      let a = accepted-answer ws spans phrases n given in
       a .1 .0 ∙ count-least ws (one-length (a .0 .words-within)) spans (a .0 .spans-within .counts-as-long)
 
   -- ---- each word kept, with its phrase number
-  pub word-placed : (i : ℕ) → i < n → PlacedWord ws (one-length (accepted-answer ws spans phrases n says .0 .words-within)) spans (accepted-answer ws spans phrases n says .0 .spans-within .counts-as-long)
-      (length (spans .starts)) (getD (alignCall ws spans phrases .phrases) i 0) i (wordTimes (alignCall ws spans phrases .words) i)
+  pub word-placed : (i : ℕ) → i < n → PlacedWord ws spans (length (spans .starts)) (getD (alignCall ws spans phrases .phrases) i 0) i (wordTimes (alignCall ws spans phrases .words) i)
   unfolding wordsInPlaces inTheirPlaces
   word-placed i h =
-      let a = accepted-answer ws spans phrases n says in
+      let a = accepted-answer ws spans phrases n given in
       let w = placed-after ws (one-length (a .0 .words-within)) spans (a .0 .spans-within .counts-as-long) in
       let out = alignPhrases ws spans in
       let c : count (out .words) ≡ min (out .k) (count ws) = rw (w .keys) (length-take-le (min (out .k) (count ws)) (ws .keys) (omega arith)) in
@@ -46,19 +46,11 @@ module _ (ws : Words) (spans : Spans) (phrases : List ℕ) (n : ℕ) (says : ali
       → wordTimes (alignCall ws spans phrases .words) i ≡ wordTimes ws i
   untouched i h t = word-placed i h .inside-keeps t
 
-  -- ---- what else the call leaves: letters, units and keys of the words kept stay, the places of the others become zero, and phrase places past the words stay
-  pub record Leaves (ended : Words) (numbers : List ℕ) : Type 0 where
-    pub letters : ended .letters ≡ inPlaces 0 (count ws) (take n (ws .letters))
-    pub units : ended .units ≡ inPlaces 0 (count ws) (take n (ws .units))
-    pub keys : ended .keys ≡ inPlaces 0 (count ws) (take n (ws .keys))
-    pub starts-dropped : drop n (ended .starts) ≡ replicate (count ws - n) zeroF
-    pub ends-dropped : drop n (ended .ends) ≡ replicate (count ws - n) zeroF
-    pub numbers-dropped : drop n numbers ≡ replicate (count ws - n) 0 ++ drop (count ws) phrases
-
-  pub leaves : Leaves (alignCall ws spans phrases .words) (alignCall ws spans phrases .phrases)
+  -- ---- what else the call leaves
+  pub leaves : Leaves ws phrases n (alignCall ws spans phrases .words) (alignCall ws spans phrases .phrases)
   unfolding wordsInPlaces inTheirPlaces
   leaves =
-      let a = accepted-answer ws spans phrases n says in
+      let a = accepted-answer ws spans phrases n given in
       let w = placed-after ws (one-length (a .0 .words-within)) spans (a .0 .spans-within .counts-as-long) in
       let out = alignPhrases ws spans in
       let c : min (out .k) (count ws) ≡ n = sym (a .1 .0 ∙ rw (w .keys) (length-take-le (min (out .k) (count ws)) (ws .keys) (omega arith))) in

@@ -1,6 +1,6 @@
 -- Facts of placing: the new count is the least of the words and the sum of the counts; each word's phrase number is that of the span whose words it is
 -- among; a word inside that span keeps both its times; letters, units and keys are those of the first words. By following the spans. Assumes nothing.
-use Prim.Native.Nat.{ℕ, suc, _+_, _-_, _≤_, _<_, min}
+use Prim.Native.Nat.{ℕ, suc, _+_, _-_, _<_, min}
 use mathlib.Core.Path.{_≡_, refl, sym, ap, subst, _∙_}
 use mathlib.Core.Bool.{Bool, true, false}
 use mathlib.Core.List.{List, [], _++_}
@@ -12,7 +12,6 @@ use lib.Seq.{length-take-le, take-all, getD-append-add, getD-take, getD-drop}
 use lib.Ieee.{Float, nan}
 use Rattle.base.specs.Words.{Words, words, Spans, Edges, edges, timesAt, count, part}
 use Rattle.base.specs.Parts.{OneLength}
-use Rattle.base.specs.declared.Times.{Times}
 use Rattle.base.proofs.Loops.{each-holds}
 use Rattle.base.proofs.Parts.{part-long, take-part, times-alike}
 use Rattle.share.specs.Share.{sum}
@@ -21,20 +20,10 @@ use Rattle.spread.specs.Spread.{inside, placeGroup}
 use Rattle.phrase_align.specs.PhraseAlign.{Placing, groupOf, extend, placedIn, placeTurn, alignPhrases}
 use Rattle.spread.proofs.Long.{group-long}
 use Rattle.spread.proofs.Untouched.{group-keeps}
+use Rattle.phrase_align.specs.Placed.{wordTimes, PlacedWord}
 use Rattle.phrase_align.proofs.Joined.{placing, turn-always, count-group}
 
--- ---- a word's two times, of all five lists
-abbrev pub wordTimes : Words → ℕ → Times
-wordTimes ws i = timesAt (edges (ws .starts) (ws .ends)) i
-
 module _ (all : Words) (even : OneLength (count all) all) (spans : Spans) (paired : length (spans .counts) ≡ length (spans .starts)) where
-  -- ---- what is true of the placed word i, whose phrase number is p, after the spans before q
-  pub record PlacedWord (q p i : ℕ) (after : Times) : Type 0 where
-    pub number : p < q
-    pub from : sum (take p (spans .counts)) ≤ i
-    pub before : i < sum (take (suc p) (spans .counts))
-    pub inside-keeps : inside (getD (spans .starts) p nan) (getD (spans .ends) p nan) (wordTimes all i) ≡ true → after ≡ wordTimes all i
-
   pub record After (q : ℕ) (out : Placing) : Type 0 where
     pub counted : out .k ≡ sum (take q (spans .counts))
     pub starts-long : length (out .words .starts) ≡ min (out .k) (count all)
@@ -43,7 +32,7 @@ module _ (all : Words) (even : OneLength (count all) all) (spans : Spans) (paire
     pub letters : out .words .letters ≡ take (min (out .k) (count all)) (all .letters)
     pub units : out .words .units ≡ take (min (out .k) (count all)) (all .units)
     pub keys : out .words .keys ≡ take (min (out .k) (count all)) (all .keys)
-    pub each-word : (i : ℕ) → i < min (out .k) (count all) → PlacedWord q (getD (out .phrases) i 0) i (wordTimes (out .words) i)
+    pub each-word : (i : ℕ) → i < min (out .k) (count all) → PlacedWord all spans q (getD (out .phrases) i 0) i (wordTimes (out .words) i)
 
   -- one span more, with words a to e
   module _ (q : ℕ) (out : Placing) (h : After q out) (in-spans : q < length (spans .starts)) (a e k : ℕ) (is : min (out .k) (count all) ≡ a) (e-is : e ≡ min k (count all)) (k-is : k ≡ out .k + getD (spans .counts) q 0)
@@ -108,13 +97,13 @@ module _ (all : Words) (even : OneLength (count all) all) (spans : Spans) (paire
       was-given : (j : ℕ) → j < e - a → timesAt group j ≡ wordTimes all (a + j)
       was-given j l = times-alike (group-at (all .starts) j l) (group-at (all .ends) j l)
 
-      old-word : (i : ℕ) → i < a → PlacedWord (suc q) (getD numbers i 0) i (wordTimes after i)
+      old-word : (i : ℕ) → i < a → PlacedWord all spans (suc q) (getD numbers i 0) i (wordTimes after i)
       old-word i l =
           let w = h .each-word i (omega arith) in
           rw (earlier i l, first-part (out .phrases) (replicate (e - a) q) 0 i (h .phrases-long) l)
           (record { number = omega (arith, w .number); from = w .from; before = w .before; inside-keeps = w .inside-keeps })
 
-      new-word : (j : ℕ) → a + j < e → PlacedWord (suc q) (getD numbers (a + j) 0) (a + j) (wordTimes after (a + j))
+      new-word : (j : ℕ) → a + j < e → PlacedWord all spans (suc q) (getD numbers (a + j) 0) (a + j) (wordTimes after (a + j))
       new-word j l =
           let m : j < e - a = omega arith in
           let n : getD numbers (a + j) 0 ≡ q = second-part (out .phrases) (replicate (e - a) q) 0 j (h .phrases-long) ∙ getD-replicate (e - a) j q 0 m in
@@ -127,12 +116,12 @@ module _ (all : Words) (even : OneLength (count all) all) (spans : Spans) (paire
                 group-keeps (part a e (all .letters)) low high group j (group-ends ∙ sym group-starts) (omega (arith, group-starts)) (ap (inside low high) (was-given j m) ∙ t) ∙ was-given j m;
           })
 
-      words-after : (i : ℕ) → i < min k (count all) → PlacedWord (suc q) (getD numbers i 0) i (wordTimes after i)
+      words-after : (i : ℕ) → i < min k (count all) → PlacedWord all spans (suc q) (getD numbers i 0) i (wordTimes after i)
       words-after i l = go (ltb i a) refl
         where
-          go : (t : Bool) → ltb i a ≡ t → PlacedWord (suc q) (getD numbers i 0) i (wordTimes after i)
+          go : (t : Bool) → ltb i a ≡ t → PlacedWord all spans (suc q) (getD numbers i 0) i (wordTimes after i)
           go true t = old-word i (ltb-true i a t)
-          go false t = let z : a + (i - a) ≡ i = omega (arith, ltb-false i a t) in subst (λ (n : ℕ). PlacedWord (suc q) (getD numbers n 0) n (wordTimes after n)) z (new-word (i - a) (omega arith))
+          go false t = let z : a + (i - a) ≡ i = omega (arith, ltb-false i a t) in subst (λ (n : ℕ). PlacedWord all spans (suc q) (getD numbers n 0) n (wordTimes after n)) z (new-word (i - a) (omega arith))
 
       span-after : After (suc q) (placing after numbers k)
       unfolding extend placedIn groupOf

@@ -1,5 +1,5 @@
 -- phrase_align.rs, align_phrases after alignment, line by line, and document 01, "Placing in phrases". Assumes nothing.
-use Prim.Native.Nat.{ℕ, _+_, min}
+use Prim.Native.Nat.{ℕ, _+_, _≤_, min}
 use mathlib.Core.Bool.{cond}
 use mathlib.Core.List.{List, [], _++_}
 use lib.Dec.{eqb}
@@ -7,9 +7,11 @@ use lib.ListN.{getD, length, drop, replicate}
 use lib.Ieee.{nan}
 use Rattle.base.specs.Loop.{each}
 use Rattle.base.specs.Words.{Words, words, Spans, edges, withEdges, count, part, inPlaces, wordsInPlaces}
+use Rattle.base.specs.Refusals.{number, Says, accepts, refuses}
 use Rattle.spread.specs.Spread.{placeGroup}
 use Rattle.base.specs.declared.Rule.{Rule}
 use Rattle.base.specs.declared.Rule.the-variants.{Fine, Breaks}
+use Rattle.word_calls.specs.Within.{WordsWithin, SpansWithin}
 use Rattle.word_calls.specs.Calls.{spansRule}
 use Rattle.phrase_align.specs.declared.Answer.{Answer}
 use Rattle.phrase_align.specs.declared.Answer.the-variants.{Accepted, Refused}
@@ -59,6 +61,17 @@ inTheirPlaces out places phrases =
     record { words = wordsInPlaces places (out .words); phrases = inPlaces 0 places (out .phrases) ++ drop places phrases }
 
 -- ======== What the public call answers and leaves: "The new count is given back."
+
+-- ---- "How much is taken", of placing: words and spans within the limits; "Needs a phrase place for every word given".
+pub record PlacesWithin (ws : Words) (spans : Spans) (phrases : List ℕ) : Type 0 where
+  pub words-within : WordsWithin ws
+  pub spans-within : SpansWithin spans
+  pub enough : count ws ≤ length phrases
+
+-- ---- "The new count is given back"; "A refusal returns its number only".
+abbrev pub says : Answer → Says ℕ
+says (Accepted n) = accepts n
+says (Refused r) = refuses (number r)
 
 pub record Output : Type 0 where
   pub answer : Answer

@@ -11,8 +11,7 @@ use lib.ListN.{length, set, length-set, length-map}
 use lib.Seq.{sets, sets-eq}
 use lib.Ieee.{Float, le}
 use Rattle.envelope.specs.Envelope.{quietRow}
-use Rattle.pieces.specs.Pieces.{maxFrames, cut, Piece, over, pieces, pieceCount, need}
-use Rattle.pieces.specs.Parts.{Ready}
+use Rattle.pieces.specs.Pieces.{maxFrames, cut, Piece, over, pieces, pieceCount, need, Ready}
 use Rattle.pieces.proofs.Walk.{inner, final, left, left-past, left-near, left-far, left-some, pieces-left, count-needs}
 
 pub quiet-length : (floor : Float) (levels : List Float) → length (quietRow floor levels) ≡ length levels

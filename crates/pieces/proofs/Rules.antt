@@ -9,17 +9,17 @@ use borrow.Author.Tests.{ltb-false, le-ltb, eqb-true, eq-eqb, not-false}
 use lib.Dec.{eqb, ltb}
 use lib.ListN.{length}
 use lib.Ieee.{Float}
-use Rattle.base.specs.Refusals.{first}
+use Rattle.base.specs.Refusals.{first, None}
 use Rattle.base.specs.declared.Refusal.{Refusal}
 use Rattle.base.specs.declared.Refusal.the-variants.{Counts, Levels, Places}
 use Rattle.base.specs.declared.Rule.{Rule}
 use Rattle.base.specs.declared.Rule.the-variants.{Fine, Breaks}
-use Rattle.base.proofs.First.{None, fine-none, none-fine}
+use Rattle.base.proofs.First.{fine-none, none-fine}
 use Rattle.limits.specs.Limits.{manySamples, otherLevels, fewPlaces}
 use Rattle.envelope.specs.Envelope.{quietRow}
 use Rattle.pieces.specs.declared.Answer.the-variants.{Accepted, Refused}
-use Rattle.pieces.specs.Pieces.{pieces, pieceCount, need, tests, Output, output, accepted, piecesCall}
-use Rattle.pieces.specs.Parts.{Ready, startsOver, endsOver}
+use Rattle.pieces.specs.Pieces.{pieces, pieceCount, need, tests, Output, output, accepted, piecesCall, Ready}
+use Rattle.pieces.specs.Parts.{startsOver, endsOver}
 use Rattle.pieces.proofs.Walk.{never-stuck, pieceCount-is}
 
 or-first : (a b : Bool) → (a || b) ≡ false → a ≡ false

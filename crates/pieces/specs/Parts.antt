@@ -1,5 +1,5 @@
 -- What only the contracts of the unchecked core cite; a reader of the public call may skip it. Assumes nothing.
-use Prim.Native.Nat.{ℕ, _-_, _≤_, _<_, _/_}
+use Prim.Native.Nat.{ℕ, _-_, _≤_, _<_}
 use mathlib.Core.Path.{_≡_}
 use mathlib.Core.Bool.{Bool, false, cond, _&&_}
 use mathlib.Core.List.{List, map}
@@ -7,7 +7,7 @@ use lib.Dec.{ltb}
 use lib.ListN.{getD}
 use Rattle.base.specs.Loop.{each, up, down}
 use Rattle.pieces.specs.declared.cut.Quiet.{Quiet}
-use Rattle.pieces.specs.Pieces.{Best, Search, none, some, searchTurn, searchFrames, minQuiet, atBest, Piece, over, need}
+use Rattle.pieces.specs.Pieces.{Best, Search, none, some, searchTurn, searchFrames, minQuiet, atBest, Piece, over}
 
 -- ======== `cut`
 
@@ -40,13 +40,6 @@ pub record Stands (part : List Bool) (q : Quiet) : Type 0 where
   pub rest : partSearch part .best ≡ each (searchTurn part) (searchFrames - q .start) (q .start) (record { best = shown q; run = 0 }) .best
 
 -- ======== The call
-
--- ---- No refusal applies: samples within the limit, their levels, and the places that the pieces need.
-pub record Ready (frames count starts ends : ℕ) : Type 0 where
-  pub few : count ≤ 57600000
-  pub all : frames ≡ count / 160
-  pub from : need frames ≤ starts
-  pub to : need frames ≤ ends
 
 -- ---- The first samples of the pieces, and their ends, over what the places held.
 unfoldable pub startsOver : List Piece → List ℕ → List ℕ

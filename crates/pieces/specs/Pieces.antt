@@ -1,5 +1,6 @@
 -- pieces.rs, and document 01's "Pieces". A `row` says which frames are quiet. Assumes nothing.
-use Prim.Native.Nat.{ℕ, _+_, _-_, _/_, _*_}
+use Prim.Native.Nat.{ℕ, _+_, _-_, _/_, _*_, _≤_}
+use mathlib.Core.Path.{_≡_}
 use mathlib.Core.Bool.{Bool, true, false, cond, _&&_, _||_}
 use mathlib.Core.List.{List, [], _∷_, _++_, map}
 use lib.ListN.{getD, length, drop}
@@ -7,7 +8,7 @@ use lib.Dec.{leb, ltb, eqb}
 use lib.IntN.{ℤ, pos}
 use lib.Ieee.{Float}
 use Rattle.base.specs.Loop.{each, run, Turn, on, out}
-use Rattle.base.specs.Refusals.{Test, test, first}
+use Rattle.base.specs.Refusals.{number, Test, test, first, Says, accepts, refuses}
 use Rattle.base.specs.declared.Refusal.the-variants.{Counts, Levels, Places, Cut}
 use Rattle.base.specs.declared.Rule.{Rule}
 use Rattle.base.specs.declared.Rule.the-variants.{Fine, Breaks}
@@ -106,6 +107,18 @@ pieceCount row = length (pieces row 0)
 -- ---- "Needs (frames - 1) / 1,203 rounded down, plus 1, places; none for no frame."
 unfoldable pub need : ℕ → ℕ
 need frames = cond (eqb frames 0) 0 ((frames - 1) / 1203 + 1)
+
+-- ---- "How much is taken", of pieces: samples within the limit, as many levels as samples / 160, rounded down, and the places that the pieces need.
+pub record Ready (frames count starts ends : ℕ) : Type 0 where
+  pub few : count ≤ 57600000
+  pub all : frames ≡ count / 160
+  pub from : need frames ≤ starts
+  pub to : need frames ≤ ends
+
+-- ---- Accepted, the number of pieces is given back; "A refusal returns its number only".
+abbrev pub says : Answer → Says ℕ
+says (Accepted n) = accepts n
+says (Refused r) = refuses (number r)
 
 -- ---- The call: refusals 4, 7, 6, 8, in this order; what is given back and what the lent places hold afterwards.
 pub record Output : Type 0 where

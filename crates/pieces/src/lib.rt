@@ -6,8 +6,8 @@ ghost use lib.ListN.{length};
 ghost use Rattle.base.specs.Refusals.{first};
 ghost use Rattle.limits.specs.Limits.{fewPlaces};
 ghost use Rattle.envelope.specs.Envelope.{quietRow};
-ghost use Rattle.pieces.specs.Pieces.{cut, pieces, pieceCount, need, tests, output, accepted, piecesCall};
-ghost use Rattle.pieces.specs.Parts.{Ready, startsOver, endsOver};
+ghost use Rattle.pieces.specs.Pieces.{cut, pieces, pieceCount, need, tests, output, accepted, piecesCall, Ready};
+ghost use Rattle.pieces.specs.Parts.{startsOver, endsOver};
 use base::Refusal;
 use base::Rule;
 

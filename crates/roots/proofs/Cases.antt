@@ -15,8 +15,9 @@ use lib.Ieee.Compare.{differs-from-itself}
 use Rattle.base.proofs.Bits.{decode, fields-low, fields-mid, fields-top, value-low, value-mid}
 use Rattle.roots.specs.Sqrt.{roundRoot, sqrt}
 use Rattle.roots.specs.Parts.{Rooted}
+use Rattle.roots.specs.Nearest.{InUnits}
 use Rattle.roots.proofs.Fours.{fours}
-use Rattle.roots.proofs.Value.{InUnits, sqrt-pos, sqrt-neg}
+use Rattle.roots.proofs.Value.{sqrt-pos, sqrt-neg}
 
 -- ---- NaN
 pub at-nan : (f : Format) (x : Float) → ne x x ≡ true → x ≡ sqrt f x

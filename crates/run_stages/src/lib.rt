@@ -3,7 +3,7 @@ ghost use mathlib.Core.Path.{_≡_};
 ghost use lib.ListN.{length};
 ghost use Rattle.base.specs.Words.{words, spans};
 ghost use Rattle.envelope.specs.Envelope.{loudRow, quietRow};
-ghost use Rattle.pieces.specs.Parts.{Ready as PiecesReady};
+ghost use Rattle.pieces.specs.Pieces.{Ready as PiecesReady};
 ghost use Rattle.loops.specs.Loops.{collapseLoops};
 ghost use Rattle.run_stages.specs.Stages.{snapped, settled, runOn};
 ghost use Rattle.run_stages.specs.Parts.{Ready, FewLetters, Settling, Running};

@@ -12,14 +12,14 @@ use lib.ListN.{length, take}
 use lib.Ieee.{Float, nan, inf, fin, binary64, low, up, down}
 use lib.Ieee.Fits.{down-pos}
 use lib.Ieee.Exact.{HasValue}
-use Rattle.base.specs.Floats.{_⊖_, num}
+use Rattle.base.specs.Floats.{_⊖_, num, Most}
 use Rattle.base.specs.Words.{zeroF}
-use Rattle.base.proofs.Most.{Most}
 use Rattle.js.specs.Js.{negative, jsMax}
 use Rattle.share.specs.Share.{sum, boundary}
+use Rattle.share.specs.Drifts.{amount, plus, minus, Counted, farthest}
 use Rattle.share.proofs.Sums.{sum-take-most}
-use Rattle.share.proofs.Parts.{amount, amount-is, plus, minus, Counted, counted}
-use Rattle.share.proofs.Steps.{farthest, Fair, most-above, most-below}
+use Rattle.share.proofs.Parts.{amount-is, counted}
+use Rattle.share.proofs.Steps.{Fair, most-above, most-below}
 use Rattle.share.proofs.Rooms.{Ranged, ranged, difference-fair, gap-fair}
 use Rattle.share.proofs.Drift.{doubles, boundary-holds}
 

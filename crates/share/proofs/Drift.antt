@@ -18,10 +18,11 @@ use Rattle.base.specs.Words.{zeroF}
 use Rattle.base.proofs.Units.{gap}
 use Rattle.js.specs.Js.{jsMax}
 use Rattle.share.specs.Share.{sum, boundary}
+use Rattle.share.specs.Drifts.{amount, plus, minus, Counted, second, Below, Time, Drifts, farthest}
 use Rattle.share.proofs.Sums.{sum-nil, sum-take, sum-take-most}
-use Rattle.share.proofs.Parts.{amount, plus, minus, Counted, counted-fits}
+use Rattle.share.proofs.Parts.{counted-fits}
 use Rattle.share.proofs.Portion.{Setting}
-use Rattle.share.proofs.Steps.{farthest, Fair, Holds, begin, step, exact-above, exact-below}
+use Rattle.share.proofs.Steps.{Fair, Holds, begin, step, exact-above, exact-below}
 use Rattle.share.proofs.Boundaries.{boundary-first, boundary-next}
 use Rattle.share.proofs.Rooms.{Ranged, ranged, difference-fair, gap-fair}
 
@@ -38,21 +39,6 @@ module _ (k : ℕ) (K : 0 < k) (letters : List ℕ) (few : length letters ≤ 40
       subst₂ (λ (S : ℕ) (t : Float). Holds binary64 1034 k K doubles from room (sum letters) gp gn H fair S (suc j) t) (sym (sum-take letters j h)) (sym (boundary-next letters room (num (sum letters)) from j))
       (step binary64 1034 k K doubles from room (sum letters) gp gn H fair (sum (take j letters)) j (getD letters j 0) (boundary letters room (num (sum letters)) from j) (boundary-holds j (omega arith))
       (le-trans (le-of-eq (sym (sum-take letters j h))) (sum-take-most letters (suc j))) (omega arith))
-
--- ---- the smallest doubles of a second
-abbrev pub second : ℕ
-second = 2 ^ 1074
-
--- ---- a finite number below n in size
-abbrev Below : ℕ → Float → Type 0
-Below n nan = ⊥
-Below n (inf s) = ⊥
-Below n (fin s m e) = m * up e < n * down e
-
--- ---- a double below 2^13 s in size
-pub record Time (x : Float) : Type 0 where
-  pub double : T (fits binary64 x)
-  pub near : Below (2 ^ 13) x
 
 below-finite : (n : ℕ) (x : Float) → Below n x → T (finite x)
 below-finite n nan h = h
@@ -90,12 +76,6 @@ below-steps (fin s m e) g h v = go (ltb a (2 ^ 52 * 2 ^ 1034)) refl
     go false t =
         let c = gap binary64 (fin false m e) a 1034 (plain s g) (refl, v .1) (ltb-false a (2 ^ 52 * 2 ^ 1034) t) in
         on-a-step (2 ^ 1034) a (c .0) (c .1) below
-
--- ---- t is finite, and within (j + 8) × 2^-40 s of from + (gp - gn) × part / all
-pub record Drifts (from : Float) (gp gn part all j : ℕ) (t : Float) : Type 0 where
-  pub number : Counted second t
-  pub above : all * (plus second t + minus second from) + part * gn ≤ all * (minus second t + plus second from) + part * gp + all * ((j + 8) * 2 ^ 1034)
-  pub below : all * (minus second t + plus second from) + part * gp ≤ all * (plus second t + minus second from) + part * gn + all * ((j + 8) * 2 ^ 1034)
 
 -- ---- a step below 2^13 s
 abbrev H : ℕ

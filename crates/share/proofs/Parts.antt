@@ -15,23 +15,8 @@ use lib.Ieee.Exact.{HasValue}
 use lib.Ieee.Scale.{grid, finite, round-same}
 use Rattle.base.proofs.Units.{in-units}
 use Rattle.js.specs.Js.{negative}
+use Rattle.share.specs.Drifts.{amount, plus, minus, Counted}
 use Rattle.share.proofs.Rounded.{Near, grid-near, round-value}
-
--- ---- how many c-ths a number is in size, above zero and below zero
-abbrev pub amount : ℕ → Float → ℕ
-amount c nan = 0
-amount c (inf s) = 0
-amount c (fin s m e) = m * up e * c / down e
-
-abbrev pub plus : ℕ → Float → ℕ
-plus c x = cond (negative x) 0 (amount c x)
-
-abbrev pub minus : ℕ → Float → ℕ
-minus c x = cond (negative x) (amount c x) 0
-
--- ---- x is finite, and a whole number of c-ths
-abbrev pub Counted : ℕ → Float → Type 0
-Counted c x = HasValue x (negative x) (amount c x) c
 
 pub one-side : (c : ℕ) (x : Float) → (plus c x ≡ 0) ⊎ (minus c x ≡ 0)
 one-side c x = go (negative x)

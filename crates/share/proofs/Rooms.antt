@@ -14,9 +14,10 @@ use lib.Ieee.Fits.{sub-fits}
 use lib.Ieee.Exact.{HasValue}
 use Rattle.base.specs.Words.{zeroF}
 use Rattle.js.specs.Js.{negative, under, jsMax}
-use Rattle.share.proofs.Parts.{amount, plus, minus, Counted, Close, one-side, plus-is, minus-is, counted, counted-fits, counted-finite, sub-close}
+use Rattle.share.specs.Drifts.{amount, plus, minus, Counted, farthest}
+use Rattle.share.proofs.Parts.{Close, one-side, plus-is, minus-is, counted, counted-fits, counted-finite, sub-close}
 use Rattle.share.proofs.Portion.{Setting, narrow, top}
-use Rattle.share.proofs.Steps.{farthest, Fair}
+use Rattle.share.proofs.Steps.{Fair}
 
 -- ---- x is a whole number of c-ths, and at most H of them in size
 pub record Ranged (c H : ℕ) (x : Float) : Type 0 where

@@ -15,7 +15,8 @@ use lib.Ieee.Nearest.{closest}
 use lib.Ieee.Order.{drop, kept}
 use lib.Ieee.Scale.{grid, overflow, finite, round-val, round-under}
 use Rattle.base.proofs.Compare.{Compared, compared}
-use Rattle.base.proofs.Most.{Most, round-most}
+use Rattle.base.proofs.Most.{round-most}
+use Rattle.base.specs.Floats.{Most}
 
 -- ---- two numbers lie at most d apart
 abbrev pub Near : ℕ → ℕ → ℕ → Type 0

@@ -10,13 +10,10 @@ use lib.Pow.{pow-pos}
 use lib.Ieee.{Float, Format, prec, low, add}
 use lib.Ieee.Exact.{HasValue}
 use Rattle.js.specs.Js.{negative}
+use Rattle.share.specs.Drifts.{amount, plus, minus, Counted, farthest}
 use Rattle.share.proofs.Rounded.{Near}
-use Rattle.share.proofs.Parts.{amount, plus, minus, Counted, Close, one-side, plus-is, minus-is, counted, finer, add-close}
+use Rattle.share.proofs.Parts.{Close, one-side, plus-is, minus-is, counted, finer, add-close}
 use Rattle.share.proofs.Portion.{Setting, narrow, top, portion, portion-near}
-
--- ---- so far out are the two ends at most: a step of 2 ^ -40 s below 2^13 s, where 2 ^ e are such a step
-abbrev pub farthest : ℕ
-farthest = 2 ^ 53 - 1
 
 -- ---- After i shares of the weights S of T the sum is tp - tn, from fp - fn on, and gp - gn is to be shared: it is ahead of the exact one by so much at most. It
 -- is behind by as much, if the same holds with each pair turned about.

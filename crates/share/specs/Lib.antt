@@ -1,2 +1,3 @@
 -- A time shared out by letters.
 pub mod Share
+pub mod Drifts

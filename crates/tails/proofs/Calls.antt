@@ -2,16 +2,17 @@
 use Prim.Native.Nat.{ℕ}
 use mathlib.Core.Path.{_≡_}
 use mathlib.Core.Logic.{_↔_}
-use mathlib.Core.List.{List}
+use mathlib.Core.List.{List, [], _∷_}
 use lib.ListN.{length}
 use lib.Ieee.{Float}
 use Rattle.base.specs.Words.{Words, words, Edges, edges}
 use Rattle.base.specs.declared.Refusal.{Refusal}
 use Rattle.base.specs.declared.Rule.{Rule}
 use Rattle.base.specs.declared.Rule.the-variants.{Fine, Breaks}
-use Rattle.base.proofs.First.{First}
-use Rattle.limits.specs.Order.{inOrder}
-use Rattle.word_calls.specs.Calls.{soundRule, output}
+use Rattle.base.specs.Refusals.{First, accepts, refuses, Judged}
+use Rattle.limits.specs.Order.{inOrder, says}
+use Rattle.word_calls.specs.Within.{SoundWithin}
+use Rattle.word_calls.specs.Calls.{soundApplies, soundRule, output, Keeps}
 use Rattle.limits.specs.declared.Answer.the-variants.{Accepted, Refused}
 use Rattle.word_calls.proofs.Moved as moves
 use Rattle.envelope.specs.Envelope.{loudRow}
@@ -22,28 +23,30 @@ module _ (ws : Words) (levels : List Float) (floor : Float) (count : ℕ) where
   abbrev given : Edges
   given = handBackTails (loudRow floor levels) (ws .letters) (edges (ws .starts) (ws .ends))
 
-  -- ---- accepted exactly when words, samples and levels are within the limits
-  pub accepted-exactly : moves.SoundWithin ws (length levels) count ↔ (tailsCall ws levels floor count .answer ≡ Accepted)
+  -- ---- accepted exactly when words, samples and levels are within the limits;
+  -- refused with n exactly when n is the first that applies, of 3, 4, 1, 2, 7
+  pub answers : Judged (SoundWithin ws (length levels) count) (3 ∷ 4 ∷ 1 ∷ 2 ∷ 7 ∷ []) (inOrder (soundApplies ws (length levels) count)) tt (says (tailsCall ws levels floor count .answer))
   unfolding tailsCall
-  accepted-exactly = moves.sound-accepted ws (length levels) count given
+  answers = moves.sound-judged ws (length levels) count given
 
-  -- ---- and then the words have the edges that the stage gives
-  pub accepted-words : tailsCall ws levels floor count .answer ≡ Accepted → tailsCall ws levels floor count .words ≡ words (given .starts) (given .ends) (ws .letters) (ws .units) (ws .keys)
+  pub accepted-exactly : SoundWithin ws (length levels) count ↔ (says (tailsCall ws levels floor count .answer) ≡ accepts tt)
+  accepted-exactly = answers .accepted-exactly
+
+  pub refused-exactly : (n : ℕ) → First n (inOrder (soundApplies ws (length levels) count)) ↔ (says (tailsCall ws levels floor count .answer) ≡ refuses n)
+  refused-exactly = answers .refused-exactly
+
+  -- ---- accepted, the words have the edges that the stage gives
+  pub accepted-words : says (tailsCall ws levels floor count .answer) ≡ accepts tt → tailsCall ws levels floor count .words ≡ words (given .starts) (given .ends) (ws .letters) (ws .units) (ws .keys)
   unfolding tailsCall
   accepted-words h = moves.accepted-words given ws (soundRule ws (length levels) count) h
 
-  -- ---- refused with r exactly when r is the first refusal that applies, of 3, 4, 1, 2, 7
-  pub refused-exactly : (r : Refusal) → First r (inOrder (moves.soundApplies ws (length levels) count)) ↔ (tailsCall ws levels floor count .answer ≡ Refused r)
-  unfolding tailsCall
-  refused-exactly r = moves.sound-refused ws (length levels) count given r
-
   -- ---- a refusal changes nothing
-  pub refusal-keeps : (r : Refusal) → tailsCall ws levels floor count .answer ≡ Refused r → tailsCall ws levels floor count .words ≡ ws
+  pub refusal-keeps : (n : ℕ) → says (tailsCall ws levels floor count .answer) ≡ refuses n → tailsCall ws levels floor count .words ≡ ws
   unfolding tailsCall
-  refusal-keeps r h = moves.refusal-keeps given ws r (soundRule ws (length levels) count) h
+  refusal-keeps n h = moves.refusal-keeps given ws n (soundRule ws (length levels) count) h
 
   -- ---- letters, units and keys stay, accepted or refused
-  pub others-stay : moves.Keeps ws (tailsCall ws levels floor count .words)
+  pub others-stay : Keeps ws (tailsCall ws levels floor count .words)
   unfolding tailsCall
   others-stay = moves.moved-keeps given ws (soundRule ws (length levels) count)
 

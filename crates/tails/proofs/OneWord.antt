@@ -9,22 +9,20 @@ use native.Mathlib.Nat.{lt-of-le-of-lt}
 use borrow.Author.Tests.{eqb-false, ltb-true, ltb-false, lt-ltb, le-ltb}
 use lib.Dec.{ltb, eqb, lit<}
 use lib.IntN.{ℤ, pos, negsuc, _-ℤ_}
-use lib.ListN.{length, getD, set}
-use lib.Ieee.{Float, nan, le}
+use lib.ListN.{length}
+use lib.Ieee.{Float, le}
 use Rattle.base.specs.Whole.{toNat}
 use Rattle.base.specs.Floats.{_⊖_, _⊗_, num}
-use Rattle.base.specs.Words.{edges, edgeQuiet, loose}
-use Rattle.base.specs.declared.Times.{Times}
+use Rattle.base.specs.Words.{times, edgeQuiet, loose}
 use Rattle.base.proofs.Loops.{sub-pos}
 use Rattle.js.specs.Js.{jsMax}
 use Rattle.frames.specs.Frames.{frameAt, frameSeconds}
 use Rattle.envelope.specs.Envelope.{loud, loudRow}
 use Rattle.envelope.specs.Parts.{Met}
 use Rattle.envelope.proofs.Scan.{loud-in, length-row}
-use Rattle.tails.specs.Tails.{minLetter, pastLoud, pastQuiet, ownSound, tailOf, handBack}
+use Rattle.tails.specs.Tails.{minLetter, pastLoud, pastQuiet, ownSound, neighbours, handBack}
 use Rattle.tails.specs.Parts.{across, lands, below, three}
-use Rattle.tails.specs.declared.one_word.Tail.{Tail}
-use Rattle.tails.specs.declared.one_word.Tail.the-variants.{Keeps, Hands}
+use Rattle.tails.specs.declared.one_word.Neighbours.{Neighbours}
 use Rattle.tails.proofs.Long.{long-anyway}
 use Rattle.tails.proofs.Searches.{across-is, met-near, met-on, met-some, pastLoud-is, pastQuiet-is, pastQuiet-none, ownSound-is, ownSound-none}
 
@@ -92,17 +90,18 @@ search-ends x n y f hi far t k ef en eh ea et ek =
     let g : f ≤ 2 ^ 40 = rw ef (omega arith) in
     let m : k ≤ 2 ^ 40 = max-most k t hi (2 ^ 40) ek (max-most t f far (2 ^ 40) et g (min-most far hi (f + 5001) (2 ^ 40) ea h)) h in lt-of-le-of-lt m (lit< tt)
 
--- what tailOf does once the start has landed
-unfoldable tailFrom : List Bool → ℤ → ℤ → ℕ → Tail
-tailFrom row f bound letters =
+-- what handBack does once the start has landed
+unfoldable handFrom : List Bool → ℤ → ℤ → Neighbours → ℕ → Neighbours
+handFrom row f bound p letters =
     let tailEnd = pastLoud row f bound in
-    cond (le (minLetter ⊗ num letters) (frameSeconds (tailEnd -ℤ f))) Keeps
+    cond (le (minLetter ⊗ num letters) (frameSeconds (tailEnd -ℤ f))) p
     (let q = pastQuiet row tailEnd bound in
-    cond (ltb (q .quiet) edgeQuiet || not (ownSound row (q .k) bound)) Keeps (Hands (frameSeconds tailEnd) (frameSeconds (q .k))))
+    cond (ltb (q .quiet) edgeQuiet || not (ownSound row (q .k) bound)) p
+    (neighbours (times (p .prev .start) (jsMax (p .prev .end) (frameSeconds tailEnd))) (times (frameSeconds (q .k)) (p .w .end))))
 
 -- ---- f is the frame of the start, and hi the frame of the end, both cut
-module _ (floor : Float) (levels : List Float) (short : length levels ≤ 2 ^ 40) (prevEnd : Float) (w : Times) (letters f : ℕ)
-    (isf : f ≡ min (toNat (frameAt (w .start))) (2 ^ 40)) where
+module _ (floor : Float) (levels : List Float) (short : length levels ≤ 2 ^ 40) (p : Neighbours) (letters f : ℕ)
+    (isf : f ≡ min (toNat (frameAt (p .w .start))) (2 ^ 40)) where
   row : List Bool
   row = loudRow floor levels
 
@@ -111,33 +110,33 @@ module _ (floor : Float) (levels : List Float) (short : length levels ≤ 2 ^ 40
   len = length-row floor levels
 
   apart : Bool
-  apart = le loose (w .start ⊖ prevEnd)
+  apart = le loose (p .w .start ⊖ p .prev .end)
 
-  lands-is : lands row prevEnd (w .start) f ≡ cond apart false (loud row (frameAt (w .start) -ℤ pos 1) && loud row (frameAt (w .start)))
+  lands-is : lands row (p .prev .end) (p .w .start) f ≡ cond apart false (loud row (frameAt (p .w .start) -ℤ pos 1) && loud row (frameAt (p .w .start)))
   unfolding lands apart
-  lands-is = rw (across-is row (omega (arith, len)) (frameAt (w .start)) f isf)
+  lands-is = rw (across-is row (omega (arith, len)) (frameAt (p .w .start)) f isf)
 
-  pub tail-early : lands (loudRow floor levels) prevEnd (w .start) f ≡ false → Keeps ≡ tailOf (loudRow floor levels) prevEnd w letters
-  unfolding tailOf row apart
-  tail-early h = rw (test-no apart (loud row (frameAt (w .start) -ℤ pos 1)) (loud row (frameAt (w .start))) (sym lands-is ∙ h))
+  pub tail-early : lands (loudRow floor levels) (p .prev .end) (p .w .start) f ≡ false → p ≡ handBack (loudRow floor levels) p letters
+  unfolding handBack row apart
+  tail-early h = rw (test-no apart (loud row (frameAt (p .w .start) -ℤ pos 1)) (loud row (frameAt (p .w .start))) (sym lands-is ∙ h))
 
   -- a start that lands on a tail is in the recording
-  place : lands row prevEnd (w .start) f ≡ true → frameAt (w .start) ≡ pos f
+  place : lands row (p .prev .end) (p .w .start) f ≡ true → frameAt (p .w .start) ≡ pos f
   unfolding lands across apart
   place h =
       let t = two (eqb f 0) (loud row (pos (f - 1))) (loud row (pos f)) (second apart (across row f) h) in
       let l = loud-in row f (t .1) in
-      nat-pos (frameAt (w .start)) f (omega (arith, len)) (omega (arith, eqb-false f 0 (t .0)))
+      nat-pos (frameAt (p .w .start)) f (omega (arith, len)) (omega (arith, eqb-false f 0 (t .0)))
 
-  landed : lands row prevEnd (w .start) f ≡ true → tailOf row prevEnd w letters ≡ tailFrom row (pos f) (frameAt (w .end)) letters
-  unfolding tailOf tailFrom apart
-  landed h = rw (test-go apart (loud row (frameAt (w .start) -ℤ pos 1)) (loud row (frameAt (w .start))) (sym lands-is ∙ h), place h)
+  landed : lands row (p .prev .end) (p .w .start) f ≡ true → handBack row p letters ≡ handFrom row (pos f) (frameAt (p .w .end)) p letters
+  unfolding handBack handFrom apart
+  landed h = rw (test-go apart (loud row (frameAt (p .w .start) -ℤ pos 1)) (loud row (frameAt (p .w .start))) (sym lands-is ∙ h), place h)
 
   -- the search for the tail's end may be cut short, 5,001 frames from f
-  module _ (hi far t : ℕ) (ishi : hi ≡ min (length levels) (min (toNat (frameAt (w .end))) (2 ^ 40))) (isfar : far ≡ min hi (f + 5001))
-      (h : lands (loudRow floor levels) prevEnd (w .start) f ≡ true) (cutShort : Met (loudRow floor levels) false f far t) where
+  module _ (hi far t : ℕ) (ishi : hi ≡ min (length levels) (min (toNat (frameAt (p .w .end))) (2 ^ 40))) (isfar : far ≡ min hi (f + 5001))
+      (h : lands (loudRow floor levels) (p .prev .end) (p .w .start) f ≡ true) (cutShort : Met (loudRow floor levels) false f far t) where
     bound : ℤ
-    bound = frameAt (w .end)
+    bound = frameAt (p .w .end)
 
     cut : hi ≡ min (length row) (toNat bound)
     unfolding bound
@@ -148,8 +147,8 @@ module _ (floor : Float) (levels : List Float) (short : length levels ≤ 2 ^ 40
     short-met = subst (λ (n : ℕ). Met (loudRow floor levels) false f n t) isfar cutShort
 
     -- a sound that goes on for 5,001 frames is long for any word
-    pub tail-far : letters ≤ 1000 → 5001 ≤ t - f → Keeps ≡ tailOf (loudRow floor levels) prevEnd w letters
-    unfolding row tailFrom bound
+    pub tail-far : letters ≤ 1000 → 5001 ≤ t - f → p ≡ handBack (loudRow floor levels) p letters
+    unfolding row handFrom bound
     tail-far few l =
         let inside = far-inside f hi t (short-met .to) l in
         let s = met-some row false (hi - t) t in
@@ -165,8 +164,8 @@ module _ (floor : Float) (levels : List Float) (short : length levels ≤ 2 ^ 40
       unfolding row
       tailEnd-is = pastLoud-is row bound hi cut f t m
 
-      pub tail-long : le (minLetter ⊗ num letters) (frameSeconds (pos (t - f))) ≡ true → Keeps ≡ tailOf (loudRow floor levels) prevEnd w letters
-      unfolding row tailFrom bound
+      pub tail-long : le (minLetter ⊗ num letters) (frameSeconds (pos (t - f))) ≡ true → p ≡ handBack (loudRow floor levels) p letters
+      unfolding row handFrom bound
       tail-long l = rw (landed h, tailEnd-is, sub-pos t f (m .from), l)
 
       module _ (k : ℕ) (l : le (minLetter ⊗ num letters) (frameSeconds (pos (t - f))) ≡ false) (v : Met (loudRow floor levels) true t hi k) where
@@ -186,38 +185,28 @@ module _ (floor : Float) (levels : List Float) (short : length levels ≤ 2 ^ 40
         unfolding rejects row
         some-is n = rw (pastQuiet-is row bound hi cut t k v n, ownSound-is row bound hi cut k)
 
-        keeps : rejects ≡ true → Keeps ≡ tailOf row prevEnd w letters
-        unfolding row tailFrom rejects bound
+        keeps : rejects ≡ true → p ≡ handBack row p letters
+        unfolding row handFrom rejects bound
         keeps r = rw (landed h, tailEnd-is, sub-pos t f (m .from), l, r)
 
-        pub tail-close : k - t < 8 → Keeps ≡ tailOf (loudRow floor levels) prevEnd w letters
+        pub tail-close : k - t < 8 → p ≡ handBack (loudRow floor levels) p letters
         unfolding row
         tail-close s = keeps (go (ltb k hi) refl) where
           go : (b : Bool) → ltb k hi ≡ b → rejects ≡ true
           go true e = some-is (ltb-true k hi e) ∙ rw (lt-ltb (k - t) 8 s)
           go false e = none-is (ltb-false k hi e)
 
-        pub tail-thin : three (loudRow floor levels) hi k ≡ false → Keeps ≡ tailOf (loudRow floor levels) prevEnd w letters
+        pub tail-thin : three (loudRow floor levels) hi k ≡ false → p ≡ handBack (loudRow floor levels) p letters
         unfolding row
         tail-thin s = keeps (go (ltb k hi) refl) where
           go : (b : Bool) → ltb k hi ≡ b → rejects ≡ true
           go true e = some-is (ltb-true k hi e) ∙ rw s (right-one (ltb (k - t) edgeQuiet))
           go false e = none-is (ltb-false k hi e)
 
-        pub tail-hands : {a b : Float} → 8 ≤ k - t → three (loudRow floor levels) hi k ≡ true → a ≡ frameSeconds (pos t) → b ≡ frameSeconds (pos k)
-            → Hands a b ≡ tailOf (loudRow floor levels) prevEnd w letters
-        unfolding row tailFrom rejects bound
-        tail-hands n s ea eb =
+        pub tail-hands : {a x b : Float} → 8 ≤ k - t → three (loudRow floor levels) hi k ≡ true → a ≡ jsMax (p .prev .end) x → x ≡ frameSeconds (pos t) → b ≡ frameSeconds (pos k)
+            → neighbours (times (p .prev .start) a) (times b (p .w .end)) ≡ handBack (loudRow floor levels) p letters
+        unfolding row handFrom rejects bound
+        tail-hands n s ea ex eb =
             let i = three-in row hi k s in
             let r : rejects ≡ false = some-is i ∙ rw (s, le-ltb (k - t) 8 n) in
-            rw (landed h, tailEnd-is, sub-pos t f (m .from), l, r, pastQuiet-is row bound hi cut t k v i, ea, eb)
-
--- ---- what a word hands back, stored
-module _ (t : Tail) (i : ℕ) (starts ends : List Float) where
-  pub hand-keeps : t ≡ Keeps → edges starts ends ≡ handBack t i (edges starts ends)
-  unfolding handBack
-  hand-keeps e = rw e
-
-  pub hand-hands : {a k x : Float} → t ≡ Hands a k → x ≡ jsMax (getD ends (i - 1) nan) a → edges (set starts i k) (set ends (i - 1) x) ≡ handBack t i (edges starts ends)
-  unfolding handBack
-  hand-hands e ex = rw (e, ex)
+            rw (landed h, tailEnd-is, sub-pos t f (m .from), l, r, pastQuiet-is row bound hi cut t k v i, ea, ex, eb)

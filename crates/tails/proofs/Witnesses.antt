@@ -18,7 +18,7 @@ use Rattle.limits.specs.Limits.{timeOf, any}
 use Rattle.limits.specs.Order.{when, also, inOrder, chain}
 use Rattle.word_calls.specs.Calls.{uneven, ofWords, ofSamples, ofLevels, soundRule, output}
 use Rattle.limits.specs.declared.Answer.the-variants.{Accepted, Refused}
-use Rattle.tails.specs.Tails.{pastLoud, pastQuiet, tailOf, handBack, tailTurn, handBackTails, tailsCall}
+use Rattle.tails.specs.Tails.{pastLoud, pastQuiet, handBack, tailTurn, handBackTails, tailsCall}
 
 -- so many hundredths of a second
 abbrev time : ℕ → Float
@@ -40,7 +40,7 @@ pair letters end start = words (time 0 ∷ start ∷ []) (end ∷ time 30 ∷ []
 
 -- the second word starts at 0.1 s, in a sound that ends at 0.12 s; its own begins at 0.2 s
 hands-back : tailsCall (pair 4 (time 10) (time 10)) heard one 4800 ≡ output Accepted (pair 4 (time 12) (time 20))
-unfolding tailsCall soundRule chain inOrder ofWords also when ofLevels ofSamples uneven first any timeOf loudRow handBackTails tailTurn tailOf handBack pastLoud pastQuiet each run frameAt floorI64 frameSeconds jsMax under isNan add sub neg sum mul div lt le eq ofInt round size span climb units odd ofBits ofFields trailingZeros
+unfolding tailsCall soundRule chain inOrder ofWords also when ofLevels ofSamples uneven first any timeOf loudRow handBackTails tailTurn handBack pastLoud pastQuiet each run frameAt floorI64 frameSeconds jsMax under isNan add sub neg sum mul div lt le eq ofInt round size span climb units odd ofBits ofFields trailingZeros
 hands-back = refl
 
 refuses-3 : let ws = words (time 0 ∷ []) [] [] [] [] in tailsCall ws heard one 4800 ≡ output (Refused Lengths) ws

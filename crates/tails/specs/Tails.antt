@@ -5,20 +5,23 @@ use mathlib.Core.List.{List}
 use lib.Dec.{ltb}
 use lib.IntN.{ℤ, pos, sucℤ, _+ℤ_, _-ℤ_}
 use lib.Signed.{ltZ}
-use lib.ListN.{getD, set, length}
-use lib.Ieee.{Float, nan, binary64, ofBits, le}
+use lib.ListN.{getD, length}
+use lib.Ieee.{Float, binary64, ofBits, le}
 use Rattle.base.specs.Loop.{Turn, on, out, range, each}
 use Rattle.base.specs.Floats.{_⊖_, _⊗_, num}
-use Rattle.base.specs.Words.{Edges, edges, edgeQuiet, loose, Words, timesAt}
+use Rattle.base.specs.Words.{Edges, edges, edgeQuiet, loose, Words, times, timesAt, setTimes}
 use Rattle.base.specs.declared.Times.{Times}
 use Rattle.js.specs.Js.{jsMax}
 use Rattle.frames.specs.Frames.{frameAt, frameSeconds}
 use Rattle.envelope.specs.Envelope.{loud, loudRow}
-use Rattle.tails.specs.declared.one_word.Tail.{Tail}
-use Rattle.tails.specs.declared.one_word.Tail.the-variants.{Keeps, Hands}
+use Rattle.tails.specs.declared.one_word.Neighbours.{Neighbours}
 use Rattle.word_calls.specs.Calls.{soundRule, Output, moved}
 
 -- ======== One word.
+
+-- ---- Two words in a row, the one before and the word itself: a step takes both words' times and gives both back.
+abbrev pub neighbours : Times → Times → Neighbours
+neighbours prev w = record { prev = prev; w = w }
 
 -- ---- MIN_LETTER, 0.05 s: a letter takes no less.
 abbrev pub minLetter : Float
@@ -49,28 +52,29 @@ loudBefore row bound j = ltZ j bound && loud row j
 abbrev pub ownSound : List Bool → ℤ → ℤ → Bool
 ownSound row k bound = loudBefore row bound k && (loudBefore row bound (k +ℤ pos 1) && loudBefore row bound (k +ℤ pos 2))
 
--- ---- One word: `Keeps` is a `continue`; `Hands` gives where the word before it ends at the least, and where the word starts.
-unfoldable pub tailOf : List Bool → Float → Times → ℕ → Tail
-tailOf row prevEnd w letters =
+-- ---- One word, and prev, the word before it; `continue` leaves both as they are. At the end
+-- prev.end = js_max(prev.end, frame_seconds(tail_end)); w.start = frame_seconds(k);
+unfoldable pub handBack : List Bool → Neighbours → ℕ → Neighbours
+handBack row p letters =
+    let prev = p .prev in
+    let w = p .w in
     let f = frameAt (w .start) in
-    cond (le loose (w .start ⊖ prevEnd) || (not (loud row (f -ℤ pos 1)) || not (loud row f))) Keeps
+    cond (le loose (w .start ⊖ prev .end) || (not (loud row (f -ℤ pos 1)) || not (loud row f))) p
     (let bound = frameAt (w .end) in
     let tailEnd = pastLoud row f bound in
     let need = minLetter ⊗ num letters in
-    cond (le need (frameSeconds (tailEnd -ℤ f))) Keeps
+    cond (le need (frameSeconds (tailEnd -ℤ f))) p
     (let q = pastQuiet row tailEnd bound in
-    cond (ltb (q .quiet) edgeQuiet || not (ownSound row (q .k) bound)) Keeps
-    (Hands (frameSeconds tailEnd) (frameSeconds (q .k)))))
-
--- ---- prev.end = js_max(prev.end, frame_seconds(tail_end)); w.start = frame_seconds(k);
-unfoldable pub handBack : Tail → ℕ → Edges → Edges
-handBack Keeps i es = es
-handBack (Hands tailEnd start) i es = edges (set (es .starts) i start) (set (es .ends) (i - 1) (jsMax (getD (es .ends) (i - 1) nan) tailEnd))
+    cond (ltb (q .quiet) edgeQuiet || not (ownSound row (q .k) bound)) p
+    (neighbours (times (prev .start) (jsMax (prev .end) (frameSeconds tailEnd))) (times (frameSeconds (q .k)) (w .end)))))
 
 -- ======== All words, and the call.
 
+-- ---- let prev = &mut head[i - 1]; let w = &mut tail[0]; tail[0] is words[i].
 unfoldable pub tailTurn : List Bool → List ℕ → ℕ → Edges → Edges
-tailTurn row letters i es = handBack (tailOf row (timesAt es (i - 1) .end) (timesAt es i) (getD letters i 0)) i es
+tailTurn row letters i es =
+    let p = handBack row (neighbours (timesAt es (i - 1)) (timesAt es i)) (getD letters i 0) in
+    setTimes (setTimes es (i - 1) (p .prev)) i (p .w)
 
 -- ---- hand_back_tails: for i in 1..words.len()
 unfoldable pub handBackTails : List Bool → List ℕ → Edges → Edges

@@ -9,6 +9,7 @@ ghost use Rattle.tails.specs.Tails.{handBackTails, tailsCall};
 use base::Rule;
 use base::Times;
 use limits::Answer;
+use one_word::Neighbours;
 
 pub mod one_word;
 pub mod view;
@@ -25,12 +26,19 @@ pub fn move_tails(starts: &mut [f64], ends: &mut [f64], letters: &[u32], levels:
 {
     let mut i = 1;
     while i < starts.len() {
+        let prev = Times {
+            start: starts[i - 1],
+            end: ends[i - 1],
+        };
         let w = Times {
             start: starts[i],
             end: ends[i],
         };
-        let t = one_word::tail_of(levels, floor, ends[i - 1], w, letters[i]);
-        one_word::hand_back(starts, ends, t, i);
+        let p = one_word::hand_back(levels, floor, Neighbours { prev, w }, letters[i]);
+        starts[i - 1] = p.prev.start;
+        ends[i - 1] = p.prev.end;
+        starts[i] = p.w.start;
+        ends[i] = p.w.end;
         i += 1;
     }
 }

@@ -5,10 +5,9 @@ ghost use lib.IntN.{pos};
 ghost use lib.ListN.{length};
 ghost use lib.Ieee.{le};
 ghost use Rattle.base.specs.Floats.{_⊗_, num};
-ghost use Rattle.base.specs.Words.{edges};
 ghost use Rattle.frames.specs.Frames.{frameSeconds};
 ghost use Rattle.envelope.specs.Envelope.{loudRow};
-ghost use Rattle.tails.specs.Tails.{minLetter, tailOf, handBack};
+ghost use Rattle.tails.specs.Tails.{minLetter, handBack};
 ghost use Rattle.tails.specs.Parts.{across as acrossAt, lands as landsAt, below, three};
 use base::Times;
 
@@ -21,10 +20,10 @@ const MAX_TAIL: usize = 5001;
 // So many quiet frames in a row, 80 ms, end a tail.
 const EDGE_QUIET: usize = 8;
 
-// What a word hands back: nothing, or where the word before it ends at the least, and where it starts itself.
-pub enum Tail {
-    Keeps,
-    Hands(f64, f64),
+// Two words in a row: the times of the one before, and of the word itself.
+pub struct Neighbours {
+    pub prev: Times,
+    pub w: Times,
 }
 
 // The sound runs across the start of a frame.
@@ -80,44 +79,38 @@ fn own_sound(levels: &[f64], floor: f64, hi: usize, k: usize) -> bool
     false
 }
 
-// What a word hands back.
-pub fn tail_of(levels: &[f64], floor: f64, prev_end: f64, w: Times, letters: u32) -> Tail
+// A word hands its tail of sound back to the word before it, if it starts on one.
+pub fn hand_back(levels: &[f64], floor: f64, p: Neighbours, letters: u32) -> Neighbours
     requires { ⌜ (length (now levels) ≤ 2 ^ 40) × (letters ≤ 1000) ⌝ }
-    ensures { λ r. ⌜ r ≡ tailOf (loudRow floor (now (levels .entry))) «prev_end» w letters ⌝ }
+    ensures { λ r. ⌜ r ≡ handBack (loudRow floor (now (levels .entry))) p letters ⌝ }
 {
-    let f = frames::frame_index(w.start);
-    if !lands(levels, floor, prev_end, w.start, f) {
-        return Tail::Keeps;
+    let f = frames::frame_index(p.w.start);
+    if !lands(levels, floor, p.prev.end, p.w.start, f) {
+        return p;
     }
-    let hi = base::least(levels.len(), frames::frame_index(w.end));
+    let hi = base::least(levels.len(), frames::frame_index(p.w.end));
     let far = base::least(hi, f + MAX_TAIL);
     let t = envelope::first_frame(levels, floor, false, f, far);
     if MAX_TAIL <= t - f {
-        return Tail::Keeps;
+        return p;
     }
     if is_long(t - f, letters) {
-        return Tail::Keeps;
+        return p;
     }
     let k = envelope::first_frame(levels, floor, true, t, hi);
     if k - t < EDGE_QUIET {
-        return Tail::Keeps;
+        return p;
     }
-    if own_sound(levels, floor, hi, k) {
-        return Tail::Hands(frames::index_seconds(t), frames::index_seconds(k));
+    if !own_sound(levels, floor, hi, k) {
+        return p;
     }
-    Tail::Keeps
-}
-
-// Word i hands back what it has of the word before it.
-pub fn hand_back(starts: &mut [f64], ends: &mut [f64], t: Tail, i: usize)
-    requires { ⌜ (0 < i) × ((i < length (now starts)) × (length (now ends) ≡ length (now starts))) ⌝ }
-    ensures { λ _. ⌜ edges (now (starts .exit)) (now (ends .exit)) ≡ handBack t i (edges (now (starts .entry)) (now (ends .entry))) ⌝ }
-{
-    match t {
-        Tail::Keeps => {}
-        Tail::Hands(tail_end, start) => {
-            ends[i - 1] = js::js_max(ends[i - 1], tail_end);
-            starts[i] = start;
-        }
-    }
+    let prev = Times {
+        start: p.prev.start,
+        end: js::js_max(p.prev.end, frames::index_seconds(t)),
+    };
+    let w = Times {
+        start: frames::index_seconds(k),
+        end: p.w.end,
+    };
+    Neighbours { prev, w }
 }

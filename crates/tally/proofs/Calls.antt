@@ -1,34 +1,25 @@
 -- The call `tally_at` in plain words, and for the code what its tests found. By reading what the tests find. Assumes nothing.
 use Prim.Native.Nat.{ℕ, _≤_, _^_}
-use mathlib.Core.Path.{_≡_, refl, sym, ap, _∙_}
+use mathlib.Core.Path.{_≡_, refl, sym, _∙_}
 use mathlib.Core.Logic.{_↔_}
-use mathlib.Core.List.{List, _++_}
-use native.Mathlib.Omega.{arith}
+use mathlib.Core.List.{List, [], _∷_, _++_}
 use lib.ListN.{length, take, drop}
 use lib.Ieee.{Float}
 use Rattle.base.specs.Words.{Words, Spans, edges}
 use Rattle.base.specs.declared.Refusal.{Refusal}
 use Rattle.base.specs.declared.Rule.{Rule}
 use Rattle.base.specs.declared.Rule.the-variants.{Fine, Breaks}
-use Rattle.base.proofs.First.{First, fine-none, none-fine, breaks-first, first-breaks}
-use Rattle.limits.specs.Order.{inOrder, chain}
+use Rattle.base.specs.Refusals.{First, accepts, refuses, Judged, saysOf}
+use Rattle.base.proofs.First.{apart, judged}
+use Rattle.limits.specs.Order.{inOrder, chain, says}
 use Rattle.limits.specs.declared.Answer.the-variants.{Accepted, Refused}
-use Rattle.word_calls.specs.Calls.{phrasesRule}
-use Rattle.word_calls.proofs.Moved.{PhrasesWithin, phrasesApplies, within-phrases, phrases-fine, few-levels}
+use Rattle.word_calls.specs.Within.{PhrasesWithin}
+use Rattle.word_calls.specs.Calls.{phrasesApplies, phrasesRule}
+use Rattle.word_calls.proofs.Moved.{within-phrases, listed-phrases, phrases-fine, few-levels}
 use Rattle.envelope.specs.Envelope.{loudRow}
 use Rattle.tally.specs.Tally.{tallies, output, byRule, tallyCall}
 use Rattle.tally.specs.Parts.{zeros}
 use Rattle.tally.proofs.Sums.{zeros-first, zeros-behind, zeros-room}
-
--- ---- what the answer says of the tests
-module _ (given : List ℕ) (spans : ℕ) (places : List ℕ) where
-  answer-fine : (r : Rule) → byRule r given spans places .answer ≡ Accepted → r ≡ Fine
-  answer-fine Fine h = refl
-  answer-fine (Breaks q) h = absurd (let z : _≡_ {A = ℕ} 0 1 = cc in omega arith)
-
-  answer-breaks : (q : Refusal) (r : Rule) → byRule r given spans places .answer ≡ Refused q → r ≡ Breaks q
-  answer-breaks q Fine h = absurd (let z : _≡_ {A = ℕ} 0 1 = cc in omega arith)
-  answer-breaks q (Breaks s) h = cc
 
 module _ (ws : Words) (phrases : List ℕ) (spans : Spans) (levels : List Float) (floor : Float) (samples : ℕ) (places : List ℕ) where
   -- how many spans there are, and their tallies
@@ -41,31 +32,42 @@ module _ (ws : Words) (phrases : List ℕ) (spans : Spans) (levels : List Float)
   abbrev rule : Rule
   rule = phrasesRule ws (length phrases) spans (length levels) samples (length places) many
 
-  -- ---- accepted exactly when words, samples and levels and spans are within the limits, each word has a phrase number, and each span a place
-  pub accepted-exactly : PhrasesWithin ws (length phrases) spans (length levels) samples (length places) many ↔ (tallyCall ws phrases spans levels floor samples places .answer ≡ Accepted)
-  unfolding tallyCall phrasesRule chain
-  accepted-exactly =
-      let w = within-phrases ws (length phrases) spans (length levels) samples (length places) many in
-      let tests = inOrder (phrasesApplies ws (length phrases) spans (length levels) samples (length places) many) in
-      ((λ h. ap (λ (r : Rule). byRule r given many places .answer) (none-fine tests (w .0 h))), (λ h. w .1 (fine-none tests (answer-fine given many places rule h))))
+  -- what is said, by what the tests find
+  rule-says : (r : Rule) → says (byRule r given many places .answer) ≡ saysOf tt r
+  rule-says Fine = refl
+  rule-says (Breaks q) = refl
 
-  -- ---- and then the places hold the tallies, and behind them what they held
-  pub accepted-places : tallyCall ws phrases spans levels floor samples places .answer ≡ Accepted → tallyCall ws phrases spans levels floor samples places .places ≡ given ++ drop many places
+  -- ---- accepted exactly when words, samples and levels and spans are within the limits, each word has a phrase number, and each span a place; refused with n exactly when n is
+  -- the first that applies, of 3, 4, 1, 2, 7, 6
+  pub answers : Judged (PhrasesWithin ws (length phrases) spans (length levels) samples (length places) many) (3 ∷ 4 ∷ 1 ∷ 2 ∷ 7 ∷ 6 ∷ [])
+      (inOrder (phrasesApplies ws (length phrases) spans (length levels) samples (length places) many)) tt (says (tallyCall ws phrases spans levels floor samples places .answer))
+  unfolding tallyCall phrasesRule chain
+  answers =
+      judged tt (within-phrases ws (length phrases) spans (length levels) samples (length places) many) (listed-phrases ws (length phrases) spans (length levels) samples (length places) many)
+      (rule-says rule)
+
+  pub accepted-exactly : PhrasesWithin ws (length phrases) spans (length levels) samples (length places) many ↔ (says (tallyCall ws phrases spans levels floor samples places .answer) ≡ accepts tt)
+  accepted-exactly = answers .accepted-exactly
+
+  pub refused-exactly : (n : ℕ)
+      → First n (inOrder (phrasesApplies ws (length phrases) spans (length levels) samples (length places) many)) ↔ (says (tallyCall ws phrases spans levels floor samples places .answer) ≡ refuses n)
+  refused-exactly = answers .refused-exactly
+
+  -- ---- accepted, the places hold the tallies, and behind them what they held
+  pub accepted-places : says (tallyCall ws phrases spans levels floor samples places .answer) ≡ accepts tt → tallyCall ws phrases spans levels floor samples places .places ≡ given ++ drop many places
   unfolding tallyCall
-  accepted-places h = ap (λ (r : Rule). byRule r given many places .places) (answer-fine given many places rule h)
-
-  -- ---- refused with r exactly when r is the first refusal that applies, of 3, 4, 1, 2, 7, 6
-  pub refused-exactly : (r : Refusal)
-      → First r (inOrder (phrasesApplies ws (length phrases) spans (length levels) samples (length places) many)) ↔ (tallyCall ws phrases spans levels floor samples places .answer ≡ Refused r)
-  unfolding tallyCall phrasesRule chain
-  refused-exactly q =
-      let tests = inOrder (phrasesApplies ws (length phrases) spans (length levels) samples (length places) many) in
-      ((λ f. ap (λ (r : Rule). byRule r given many places .answer) (first-breaks q tests f)), (λ h. breaks-first q tests (answer-breaks given many places q rule h)))
+  accepted-places = go rule where
+    go : (r : Rule) → says (byRule r given many places .answer) ≡ accepts tt → byRule r given many places .places ≡ given ++ drop many places
+    go Fine h = refl
+    go (Breaks q) h = apart (sym h)
 
   -- ---- a refusal changes nothing
-  pub refusal-keeps : (r : Refusal) → tallyCall ws phrases spans levels floor samples places .answer ≡ Refused r → tallyCall ws phrases spans levels floor samples places .places ≡ places
+  pub refusal-keeps : (n : ℕ) → says (tallyCall ws phrases spans levels floor samples places .answer) ≡ refuses n → tallyCall ws phrases spans levels floor samples places .places ≡ places
   unfolding tallyCall
-  refusal-keeps q h = ap (λ (r : Rule). byRule r given many places .places) (answer-breaks given many places q rule h)
+  refusal-keeps n = go rule where
+    go : (r : Rule) → says (byRule r given many places .answer) ≡ refuses n → byRule r given many places .places ≡ places
+    go Fine h = apart h
+    go (Breaks q) h = refl
 
 -- ---- for the code: what it needs where the tests find nothing
 module _ (ws : Words) (phrases : ℕ) (spans : Spans) (levels samples places : ℕ) {found : Rule}

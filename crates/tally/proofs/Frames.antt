@@ -15,11 +15,11 @@ use Rattle.base.specs.Loop.{each}
 use Rattle.base.specs.Words.{times}
 use Rattle.base.specs.declared.Times.{Times}
 use Rattle.base.proofs.Loops.{each-last}
-use Rattle.frames.specs.Frames.{frameAt, frameFromZero}
+use Rattle.frames.specs.Frames.{frameAt}
 use Rattle.frames.proofs.Indices.{fromZero-nat}
 use Rattle.envelope.specs.Envelope.{loudRow}
 use Rattle.envelope.proofs.Scan.{length-row}
-use Rattle.tally.specs.Tally.{covers, coverTurn, loudUnder}
+use Rattle.tally.specs.Tally.{covers, coverTurn, loudUnder, startFrame, endFrame}
 use Rattle.tally.specs.Parts.{loudTurn, loudBetween}
 
 -- ---- the loud frames from lo on
@@ -45,18 +45,11 @@ module _ (row : List Bool) (k n : ℕ) {b : Bool} (is : b ≡ getD row k false) 
   unfolding loudTurn
   turn-quiet h = rw (← is, h)
 
--- ---- the frames of a word's two times
-abbrev pub first : Times → ℕ
-first w = toNat (frameFromZero (w .start))
-
-abbrev pub past : Times → ℕ
-past w = toNat (frameFromZero (w .end))
-
 -- ---- a frame's turn, by whether the word lies over it
 module _ (row : List Bool) (w : Times) (k n : ℕ) where
-  inside : first w ≤ k → k < past w → coverTurn row w k n ≡ loudTurn row k n
+  inside : startFrame w ≤ k → k < endFrame w → coverTurn row w k n ≡ loudTurn row k n
   unfolding coverTurn covers loudTurn
-  inside a b = rw (le-leb (first w) k a, lt-ltb k (past w) b) (go (getD row k false)) where
+  inside a b = rw (le-leb (startFrame w) k a, lt-ltb k (endFrame w) b) (go (getD row k false)) where
     go : (t : Bool) → cond (t && true) (suc n) n ≡ cond t (suc n) n
     go true = refl
     go false = refl
@@ -65,19 +58,19 @@ module _ (row : List Bool) (w : Times) (k n : ℕ) where
   nothing true = refl
   nothing false = refl
 
-  before : k < first w → coverTurn row w k n ≡ n
+  before : k < startFrame w → coverTurn row w k n ≡ n
   unfolding coverTurn covers
-  before h = rw (lt-leb (first w) k h) (nothing (getD row k false))
+  before h = rw (lt-leb (startFrame w) k h) (nothing (getD row k false))
 
-  behind : past w ≤ k → coverTurn row w k n ≡ n
+  behind : endFrame w ≤ k → coverTurn row w k n ≡ n
   unfolding coverTurn covers
-  behind h = rw (le-ltb k (past w) h) (go (leb (first w) k)) where
+  behind h = rw (le-ltb k (endFrame w) h) (go (leb (startFrame w) k)) where
     go : (t : Bool) → cond (getD row k false && (t && false)) (suc n) n ≡ n
     go true = nothing (getD row k false)
     go false = nothing (getD row k false)
 
 -- ---- the first m frames of the row
-module _ (row : List Bool) (w : Times) (short : length row ≤ 2 ^ 40) {lo hi : ℕ} (is-lo : lo ≡ min (first w) (2 ^ 40)) (is-hi : hi ≡ min (length row) (min (past w) (2 ^ 40))) where
+module _ (row : List Bool) (w : Times) (short : length row ≤ 2 ^ 40) {lo hi : ℕ} (is-lo : lo ≡ min (startFrame w) (2 ^ 40)) (is-hi : hi ≡ min (length row) (min (endFrame w) (2 ^ 40))) where
   under-first : (m : ℕ) → m ≤ length row → each (coverTurn row w) m 0 0 ≡ loudBetween row lo (min m hi)
   unfolding each
   under-first zero h = sym (between-none row lo (min 0 hi) (omega arith))
@@ -114,15 +107,15 @@ module _ (floor : Float) (levels : List Float) (start end : Float) where
       e ∙ sym (under-between (loudRow floor levels) (times start end) (rw r short) (rw a is-lo) (rw (r, b) is-hi))
 
 -- ---- an empty or reversed word counts nothing
-pub under-empty : (row : List Bool) (w : Times) → past w ≤ first w → loudUnder row w ≡ 0
+pub under-empty : (row : List Bool) (w : Times) → endFrame w ≤ startFrame w → loudUnder row w ≡ 0
 unfolding loudUnder each
 under-empty row w h = none (length row) where
   none : (m : ℕ) → each (coverTurn row w) m 0 0 ≡ 0
   none zero = refl
-  none (suc m) = let z : 0 + m ≡ m = omega arith in rw z at (each-last (coverTurn row w) m 0 0) ∙ ap (coverTurn row w m) (none m) ∙ go (ltb m (first w)) refl where
-    go : (t : Bool) → ltb m (first w) ≡ t → coverTurn row w m 0 ≡ 0
-    go true t = before row w m 0 (ltb-true m (first w) t)
-    go false t = let l = ltb-false m (first w) t in behind row w m 0 (omega arith)
+  none (suc m) = let z : 0 + m ≡ m = omega arith in rw z at (each-last (coverTurn row w) m 0 0) ∙ ap (coverTurn row w m) (none m) ∙ go (ltb m (startFrame w)) refl where
+    go : (t : Bool) → ltb m (startFrame w) ≡ t → coverTurn row w m 0 ≡ 0
+    go true t = before row w m 0 (ltb-true m (startFrame w) t)
+    go false t = let l = ltb-false m (startFrame w) t in behind row w m 0 (omega arith)
 
 -- ---- no word has more loud frames than the row has
 pub under-most : (row : List Bool) (w : Times) → loudUnder row w ≤ length row

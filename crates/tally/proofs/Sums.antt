@@ -17,7 +17,7 @@ use Rattle.base.specs.Words.{Edges, timesAt, setTimes}
 use Rattle.base.specs.declared.Times.{Times}
 use Rattle.base.proofs.Loops.{each-last, each-seen, each-table, length-table}
 use Rattle.tally.specs.Tally.{loudUnder, spanTurn, spanTally, tallies}
-use Rattle.tally.specs.Parts.{addedAt, zeros}
+use Rattle.tally.specs.Parts.{addedAt, zeros, sofar, filled}
 use Rattle.tally.proofs.Frames.{under-most}
 
 -- ---- two loops with equal turns
@@ -70,32 +70,24 @@ unfolding zeros zeroAt
 cleared n places h = each-table (λ (_ : ℕ). 0) n places h
 
 module _ (row : List Bool) (phrases : List ℕ) (es : Edges) where
-  -- ---- the sum over the words of span p among the first i
-  abbrev sofar : ℕ → ℕ → ℕ
-  sofar i p = each (spanTurn row phrases es p) i 0 0
-
   -- and its next turn, for the word's own span and for another
-  own : (i p : ℕ) → getD phrases i 0 ≡ p → sofar (i + 1) p ≡ sofar i p + loudUnder row (timesAt es i)
+  own : (i p : ℕ) → getD phrases i 0 ≡ p → sofar row phrases es (i + 1) p ≡ sofar row phrases es i p + loudUnder row (timesAt es i)
   unfolding spanTurn
   own i p h = let z : 0 + i ≡ i = omega arith in rw (add-one, rw z at (each-last (spanTurn row phrases es p) i 0 0), eq-eqb (getD phrases i 0) p h)
 
-  other : (i p : ℕ) → (getD phrases i 0 ≡ p → ⊥) → sofar (i + 1) p ≡ sofar i p
+  other : (i p : ℕ) → (getD phrases i 0 ≡ p → ⊥) → sofar row phrases es (i + 1) p ≡ sofar row phrases es i p
   unfolding spanTurn
   other i p h = let z : 0 + i ≡ i = omega arith in rw (add-one, rw z at (each-last (spanTurn row phrases es p) i 0 0), ne-eqb (getD phrases i 0) p h)
 
-  -- ---- the places after i words
-  unfoldable pub filled : ℕ → ℕ → List ℕ → List ℕ
-  filled spans i places = table (sofar i) spans 0 ++ drop spans places
-
-  filled-none : (spans : ℕ) (places : List ℕ) → zeros spans ++ drop spans places ≡ filled spans 0 places
+  filled-none : (spans : ℕ) (places : List ℕ) → zeros spans ++ drop spans places ≡ filled row phrases es spans 0 places
   unfolding filled zeros each
   filled-none spans places = refl
 
-  filled-all : (spans i : ℕ) (places : List ℕ) → i ≡ length (es .starts) → filled spans i places ≡ tallies row phrases es spans ++ drop spans places
+  filled-all : (spans i : ℕ) (places : List ℕ) → i ≡ length (es .starts) → filled row phrases es spans i places ≡ tallies row phrases es spans ++ drop spans places
   unfolding filled tallies spanTally
   filled-all spans i places h = rw h
 
-  filled-next : (spans i : ℕ) (places : List ℕ) → addedAt spans (getD phrases i 0) (loudUnder row (timesAt es i)) (filled spans i places) ≡ filled spans (i + 1) places
+  filled-next : (spans i : ℕ) (places : List ℕ) → addedAt spans (getD phrases i 0) (loudUnder row (timesAt es i)) (filled row phrases es spans i places) ≡ filled row phrases es spans (i + 1) places
   unfolding filled addedAt
   filled-next spans i places = go (ltb p spans) refl where
     p : ℕ
@@ -104,38 +96,38 @@ module _ (row : List Bool) (phrases : List ℕ) (es : Edges) where
     rest : List ℕ
     rest = drop spans places
 
-    go : (t : Bool) → ltb p spans ≡ t → cond (ltb p spans) (set (table (sofar i) spans 0 ++ rest) p (getD (table (sofar i) spans 0 ++ rest) p 0 + loudUnder row (timesAt es i))) (table (sofar i) spans 0 ++ rest) ≡ table (sofar (i + 1)) spans 0 ++ rest
+    go : (t : Bool) → ltb p spans ≡ t → cond (ltb p spans) (set (table (sofar row phrases es i) spans 0 ++ rest) p (getD (table (sofar row phrases es i) spans 0 ++ rest) p 0 + loudUnder row (timesAt es i))) (table (sofar row phrases es i) spans 0 ++ rest) ≡ table (sofar row phrases es (i + 1)) spans 0 ++ rest
     go true t =
         let h = ltb-true p spans t in
         let z : 0 + p ≡ p = omega arith in
-        let v : getD (table (sofar i) spans 0 ++ rest) p 0 + loudUnder row (timesAt es i) ≡ sofar (i + 1) (0 + p) = rw (entry (sofar i) rest spans 0 p h, z) (sym (own i p refl)) in
-        rw (t, v) (replaced (sofar i) (sofar (i + 1)) rest spans 0 p h (λ (q : ℕ) (a : q ≡ 0 + p → ⊥). sym (other i q (λ (x : p ≡ q). a (omega arith)))))
+        let v : getD (table (sofar row phrases es i) spans 0 ++ rest) p 0 + loudUnder row (timesAt es i) ≡ sofar row phrases es (i + 1) (0 + p) = rw (entry (sofar row phrases es i) rest spans 0 p h, z) (sym (own i p refl)) in
+        rw (t, v) (replaced (sofar row phrases es i) (sofar row phrases es (i + 1)) rest spans 0 p h (λ (q : ℕ) (a : q ≡ 0 + p → ⊥). sym (other i q (λ (x : p ≡ q). a (omega arith)))))
     go false t =
         let h = ltb-false p spans t in
-        rw t (ap (λ (l : List ℕ). l ++ rest) (table-alike (sofar i) (sofar (i + 1)) spans 0 (λ (q : ℕ) (a : 0 ≤ q) (b : q < 0 + spans). sym (other i q (λ (x : p ≡ q). absurd (omega arith))))))
+        rw t (ap (λ (l : List ℕ). l ++ rest) (table-alike (sofar row phrases es i) (sofar row phrases es (i + 1)) spans 0 (λ (q : ℕ) (a : 0 ≤ q) (b : q < 0 + spans). sym (other i q (λ (x : p ≡ q). absurd (omega arith))))))
 
   -- ---- no sum is above the words times the frames
-  sofar-most : (i p : ℕ) → sofar i p ≤ i * length row
+  sofar-most : (i p : ℕ) → sofar row phrases es i p ≤ i * length row
   unfolding each
   sofar-most zero p = omega arith
-  sofar-most (suc i) p = subst (λ (k : ℕ). sofar k p ≤ k * length row) (add-one i) (go (sofar-most i p) (eqb (getD phrases i 0) p) refl) where
+  sofar-most (suc i) p = subst (λ (k : ℕ). sofar row phrases es k p ≤ k * length row) (add-one i) (go (sofar-most i p) (eqb (getD phrases i 0) p) refl) where
     more : (n u x f : ℕ) → n ≤ x → u ≤ f → n + u ≤ x + f
     more n u x f a b = omega arith
 
     less : (n x f : ℕ) → n ≤ x → n ≤ x + f
     less n x f a = omega arith
 
-    go : sofar i p ≤ i * length row → (t : Bool) → eqb (getD phrases i 0) p ≡ t → sofar (i + 1) p ≤ (i + 1) * length row
+    go : sofar row phrases es i p ≤ i * length row → (t : Bool) → eqb (getD phrases i 0) p ≡ t → sofar row phrases es (i + 1) p ≤ (i + 1) * length row
     go h true e =
         rw (own i p (eqb-true (getD phrases i 0) p e), add-one i, suc-mul i (length row))
-        (more (sofar i p) (loudUnder row (timesAt es i)) (i * length row) (length row) h (under-most row (timesAt es i)))
-    go h false e = rw (other i p (eqb-false (getD phrases i 0) p e), add-one i, suc-mul i (length row)) (less (sofar i p) (i * length row) (length row) h)
+        (more (sofar row phrases es i p) (loudUnder row (timesAt es i)) (i * length row) (length row) h (under-most row (timesAt es i)))
+    go h false e = rw (other i p (eqb-false (getD phrases i 0) p e), add-one i, suc-mul i (length row)) (less (sofar row phrases es i p) (i * length row) (length row) h)
 
-  room : (spans i p : ℕ) (places : List ℕ) → i ≤ 4096 → length row ≤ 2 ^ 40 → p < spans → getD (filled spans i places) p 0 ≤ 2 ^ 52
+  room : (spans i p : ℕ) (places : List ℕ) → i ≤ 4096 → length row ≤ 2 ^ 40 → p < spans → getD (filled row phrases es spans i places) p 0 ≤ 2 ^ 52
   unfolding filled
   room spans i p places few short h =
       let z : 0 + p ≡ p = omega arith in
-      rw (entry (sofar i) (drop spans places) spans 0 p h, z) (le-trans (sofar-most i p) (mul-le-mul few short))
+      rw (entry (sofar row phrases es i) (drop spans places) spans 0 p h, z) (le-trans (sofar-most i p) (mul-le-mul few short))
 
 -- ---- the code's store, by its test
 module _ (spans p n : ℕ) (places : List ℕ) where

@@ -17,9 +17,15 @@ use Rattle.limits.specs.declared.Answer.{Answer}
 use Rattle.limits.specs.declared.Answer.the-variants.{Accepted, Refused}
 use Rattle.word_calls.specs.Calls.{phrasesRule}
 
--- ---- "the loud frames from start's frame to before end's frame, both from zero": whether a word lies over frame k.
+-- ---- "the loud frames from start's frame to before end's frame, both from zero": these two frames, and whether a word lies over frame k.
+abbrev pub startFrame : Times → ℕ
+startFrame w = toNat (frameFromZero (w .start))
+
+abbrev pub endFrame : Times → ℕ
+endFrame w = toNat (frameFromZero (w .end))
+
 unfoldable pub covers : Times → ℕ → Bool
-covers w k = leb (toNat (frameFromZero (w .start))) k && ltb k (toNat (frameFromZero (w .end)))
+covers w k = leb (startFrame w) k && ltb k (endFrame w)
 
 -- ---- How many loud frames of the row a word covers.
 unfoldable pub coverTurn : List Bool → Times → ℕ → ℕ → ℕ

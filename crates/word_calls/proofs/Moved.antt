@@ -1,77 +1,109 @@
--- A call that moves only the words' times, in plain words: accepted exactly when no test applies, refused with r exactly when r is the first that
--- applies; a refusal changes nothing, and letters, units and keys stay. By reading what the tests find. Assumes nothing.
+-- The calls on words, by their tests: no test applies exactly when all is within the limits. A call that moves only the words' times keeps its promise (`Judged`, base/specs/Refusals.antt);
+-- a refusal changes nothing, and letters, units and keys stay. By reading what the tests find. Assumes nothing.
 use Prim.Native.Nat.{ℕ, _/_, _≤_, _^_}
-use mathlib.Core.Path.{_≡_, refl, ap}
-use mathlib.Core.Logic.{_↔_}
-use mathlib.Core.List.{List}
+use mathlib.Core.Path.{_≡_, refl, sym, ap}
+use mathlib.Core.Logic.{_↔_, inl, inr}
+use mathlib.Core.List.{List, [], _∷_}
 use native.Mathlib.Omega.{arith}
 use native.Mathlib.Nat.{div-le-self}
 use lib.ListN.{length}
 use lib.Ieee.{Float}
 use Rattle.base.specs.Words.{Words, words, Spans, Edges, edges, withEdges}
+use Rattle.base.specs.Refusals.{None, accepts, refuses, Judged, saysOf, Listed}
 use Rattle.base.specs.declared.Refusal.{Refusal}
 use Rattle.base.specs.declared.Rule.{Rule}
 use Rattle.base.specs.declared.Rule.the-variants.{Fine, Breaks}
-use Rattle.base.proofs.First.{None, First, fine-none, none-fine, breaks-first, first-breaks}
-use Rattle.limits.specs.Order.{also, inOrder, chain}
-use Rattle.word_calls.specs.Calls.{ofWords, ofLevels, ofTime, ofLimit, ofSpans, ofPlaces, ofList, soundRule, timedRule, limitRule, spansRule, phrasesRule, output, moved}
+use Rattle.base.proofs.First.{apart, fine-none, judged}
+use Rattle.limits.specs.Order.{when, also, inOrder, chain, says}
 use Rattle.limits.specs.declared.Applies.{Applies}
 use Rattle.limits.specs.declared.Answer.the-variants.{Accepted, Refused}
 use Rattle.limits.proofs.Joined.{also-exactly}
-use Rattle.word_calls.proofs.Within.{Within, LimitWithin, WordsWithin, SpansWithin, words-exactly, levels-exactly, time-exactly, limit-exactly, spans-exactly, places-exactly, list-exactly}
+use Rattle.word_calls.specs.Within.{Within, LimitWithin, WordsWithin, SpansWithin, SoundWithin, PhrasesWithin}
+use Rattle.word_calls.specs.Calls.{
+  ofWords,
+  ofSamples,
+  ofLevels,
+  ofTime,
+  ofLimit,
+  ofSpans,
+  ofPlaces,
+  ofList,
+  soundApplies,
+  timedApplies,
+  limitApplies,
+  spansApplies,
+  phrasesApplies,
+  soundRule,
+  timedRule,
+  limitRule,
+  spansRule,
+  phrasesRule,
+  output,
+  moved,
+  Keeps,
+}
+use Rattle.word_calls.proofs.Within.{words-exactly, levels-exactly, time-exactly, limit-exactly, spans-exactly, places-exactly, list-exactly}
 
--- ---- the three fields of a word that no such call changes
-pub record Keeps (before after : Words) : Type 0 where
-  pub letters : after .letters ≡ before .letters
-  pub units : after .units ≡ before .units
-  pub keys : after .keys ≡ before .keys
-
+-- ---- a call that moves only times, by what its tests find
 module _ (es : Edges) (ws : Words) where
-  answer-fine : (r : Rule) → moved r es ws .answer ≡ Accepted → r ≡ Fine
-  answer-fine Fine h = refl
-  answer-fine (Breaks q) h = absurd (let z : _≡_ {A = ℕ} 0 1 = cc in omega arith)
-
-  answer-breaks : (q : Refusal) (r : Rule) → moved r es ws .answer ≡ Refused q → r ≡ Breaks q
-  answer-breaks q Fine h = absurd (let z : _≡_ {A = ℕ} 0 1 = cc in omega arith)
-  answer-breaks q (Breaks s) h = cc
+  moved-says : (r : Rule) → says (moved r es ws .answer) ≡ saysOf tt r
+  moved-says Fine = refl
+  moved-says (Breaks q) = refl
 
   pub moved-keeps : (r : Rule) → Keeps ws (moved r es ws .words)
   moved-keeps Fine = record { letters = refl; units = refl; keys = refl }
   moved-keeps (Breaks q) = record { letters = refl; units = refl; keys = refl }
 
-  pub refusal-keeps : (q : Refusal) (r : Rule) → moved r es ws .answer ≡ Refused q → moved r es ws .words ≡ ws
-  refusal-keeps q r h = ap (λ (x : Rule). moved x es ws .words) (answer-breaks q r h)
+  pub refusal-keeps : (n : ℕ) (r : Rule) → says (moved r es ws .answer) ≡ refuses n → moved r es ws .words ≡ ws
+  refusal-keeps n Fine h = apart h
+  refusal-keeps n (Breaks q) h = refl
 
   -- accepted, the words have their new edges
-  pub accepted-words : (r : Rule) → moved r es ws .answer ≡ Accepted → moved r es ws .words ≡ withEdges es ws
-  accepted-words r h = ap (λ (x : Rule). moved x es ws .words) (answer-fine r h)
+  pub accepted-words : (r : Rule) → says (moved r es ws .answer) ≡ accepts tt → moved r es ws .words ≡ withEdges es ws
+  accepted-words Fine h = refl
+  accepted-words (Breaks q) h = apart (sym h)
 
-  module _ (a : Applies) where
-    pub accepted-exactly : None (inOrder a) ↔ (moved (chain a) es ws .answer ≡ Accepted)
-    unfolding chain
-    accepted-exactly = (
-      (λ n. ap (λ (x : Rule). moved x es ws .answer) (none-fine (inOrder a) n)),
-      (λ h. fine-none (inOrder a) (answer-fine (chain a) h)),
-    )
+  -- ---- the promise, once for all of them
+  pub moved-judged : (a : Applies) {within : Type 0} {numbers : List ℕ} → within ↔ None (inOrder a) → Listed numbers (inOrder a)
+      → Judged within numbers (inOrder a) tt (says (moved (chain a) es ws .answer))
+  unfolding chain
+  moved-judged a w l = judged tt w l (moved-says (chain a))
 
-    pub refused-exactly : (q : Refusal) → First q (inOrder a) ↔ (moved (chain a) es ws .answer ≡ Refused q)
-    unfolding chain
-    refused-exactly q = (
-      (λ f. ap (λ (x : Rule). moved x es ws .answer) (first-breaks q (inOrder a) f)),
-      (λ h. breaks-first q (inOrder a) (answer-breaks q (chain a) h)),
-    )
+-- ---- which refusals the tests of each can give
+module _ (ws : Words) where
+  pub listed-sound : (levels samples : ℕ) → Listed (3 ∷ 4 ∷ 1 ∷ 2 ∷ 7 ∷ []) (inOrder (soundApplies ws levels samples))
+  unfolding inOrder also when ofWords ofLevels ofSamples
+  listed-sound levels samples =
+      (inr (inl refl), (inr (inr (inl refl)), (inr (inr (inr (inl refl))), (inr (inr (inr (inr (inl refl)))), (inr (inr (inr (inr (inr (inl refl))))), (inl refl, (inl refl, tt)))))))
 
--- ---- the tests of a stage on sound, in their order
-abbrev pub soundApplies : Words → ℕ → ℕ → Applies
-soundApplies ws levels samples = also (ofWords ws) (ofLevels levels samples)
+  pub listed-timed : (levels samples : ℕ) (duration : Float) → Listed (3 ∷ 4 ∷ 1 ∷ 2 ∷ 7 ∷ []) (inOrder (timedApplies ws levels samples duration))
+  unfolding inOrder also when ofWords ofLevels ofSamples ofTime
+  listed-timed levels samples duration =
+      (inr (inl refl), (inr (inr (inl refl)), (inr (inr (inr (inl refl))), (inr (inr (inr (inr (inl refl)))), (inr (inr (inr (inr (inr (inl refl))))), (inl refl, (inl refl, tt)))))))
 
-abbrev pub timedApplies : Words → ℕ → ℕ → Float → Applies
-timedApplies ws levels samples duration = also (soundApplies ws levels samples) (ofTime duration)
+  pub listed-limit : (limit : Float) → Listed (3 ∷ 4 ∷ 1 ∷ 2 ∷ []) (inOrder (limitApplies ws limit))
+  unfolding inOrder also when ofWords ofLimit
+  listed-limit limit = (inr (inl refl), (inr (inr (inl refl)), (inr (inr (inr (inl refl))), (inr (inr (inr (inr (inl refl)))), (inl refl, (inl refl, (inl refl, tt)))))))
 
--- ---- "within the limits" for such a stage
-abbrev pub SoundWithin : Words → ℕ → ℕ → Type 0
-SoundWithin ws levels samples = WordsWithin ws × ((samples ≤ 57600000) × (levels ≡ samples / 160))
+  pub listed-spans : (sp : Spans) (places need : ℕ) → Listed (3 ∷ 4 ∷ 1 ∷ 2 ∷ 6 ∷ []) (inOrder (spansApplies ws sp places need))
+  unfolding inOrder also when ofWords ofSpans ofPlaces
+  listed-spans sp places need =
+      (inr (inl refl), (inr (inr (inl refl)), (inr (inr (inr (inl refl))), (inr (inr (inr (inr (inl refl)))), (inl refl, (inr (inr (inr (inr (inr (inl refl))))), (inl refl, tt)))))))
 
+  pub listed-phrases : (phrases : ℕ) (sp : Spans) (levels samples places need : ℕ) → Listed (3 ∷ 4 ∷ 1 ∷ 2 ∷ 7 ∷ 6 ∷ []) (inOrder (phrasesApplies ws phrases sp levels samples places need))
+  unfolding inOrder also when ofWords ofLevels ofSamples ofList ofSpans ofPlaces
+  listed-phrases phrases sp levels samples places need = (
+    inr (inl refl),
+    (
+      inr (inr (inl refl)),
+      (
+        inr (inr (inr (inl refl))),
+        (inr (inr (inr (inr (inl refl)))), (inr (inr (inr (inr (inr (inl refl))))), (inr (inr (inr (inr (inr (inr (inl refl)))))), (inl refl, tt)))),
+      ),
+    ),
+  )
+
+-- ---- stages on sound
 module _ (ws : Words) (levels samples : ℕ) where
   within-sound : SoundWithin ws levels samples ↔ None (inOrder (soundApplies ws levels samples))
   within-sound = also-exactly _ _ (words-exactly ws) (levels-exactly levels samples)
@@ -80,26 +112,14 @@ module _ (ws : Words) (levels samples : ℕ) where
   within-timed duration = also-exactly _ _ within-sound (time-exactly duration)
 
   module _ (es : Edges) where
-    pub sound-accepted : SoundWithin ws levels samples ↔ (moved (soundRule ws levels samples) es ws .answer ≡ Accepted)
+    pub sound-judged : Judged (SoundWithin ws levels samples) (3 ∷ 4 ∷ 1 ∷ 2 ∷ 7 ∷ []) (inOrder (soundApplies ws levels samples)) tt (says (moved (soundRule ws levels samples) es ws .answer))
     unfolding soundRule
-    sound-accepted =
-        let e = accepted-exactly es ws (soundApplies ws levels samples) in
-        ((λ h. e .0 (within-sound .0 h)), (λ h. within-sound .1 (e .1 h)))
+    sound-judged = moved-judged es ws (soundApplies ws levels samples) within-sound (listed-sound ws levels samples)
 
-    pub sound-refused : (q : Refusal) → First q (inOrder (soundApplies ws levels samples)) ↔ (moved (soundRule ws levels samples) es ws .answer ≡ Refused q)
-    unfolding soundRule
-    sound-refused q = refused-exactly es ws (soundApplies ws levels samples) q
-
-    module _ (duration : Float) where
-      pub timed-accepted : (SoundWithin ws levels samples × Within duration) ↔ (moved (timedRule ws levels samples duration) es ws .answer ≡ Accepted)
-      unfolding timedRule
-      timed-accepted =
-          let e = accepted-exactly es ws (timedApplies ws levels samples duration) in
-          ((λ h. e .0 (within-timed duration .0 h)), (λ h. within-timed duration .1 (e .1 h)))
-
-      pub timed-refused : (q : Refusal) → First q (inOrder (timedApplies ws levels samples duration)) ↔ (moved (timedRule ws levels samples duration) es ws .answer ≡ Refused q)
-      unfolding timedRule
-      timed-refused q = refused-exactly es ws (timedApplies ws levels samples duration) q
+    pub timed-judged : (duration : Float)
+        → Judged (SoundWithin ws levels samples × Within duration) (3 ∷ 4 ∷ 1 ∷ 2 ∷ 7 ∷ []) (inOrder (timedApplies ws levels samples duration)) tt (says (moved (timedRule ws levels samples duration) es ws .answer))
+    unfolding timedRule
+    timed-judged duration = moved-judged es ws (timedApplies ws levels samples duration) (within-timed duration) (listed-timed ws levels samples duration)
 
   -- ---- what the tests found, for the code
   pub sound-fine : soundRule ws levels samples ≡ Fine → SoundWithin ws levels samples
@@ -111,32 +131,19 @@ module _ (ws : Words) (levels samples : ℕ) where
   timed-fine duration h = within-timed duration .1 (fine-none (inOrder (timedApplies ws levels samples duration)) h) .0
 
 -- ---- words and a limit for evening
-abbrev pub limitApplies : Words → Float → Applies
-limitApplies ws limit = also (ofWords ws) (ofLimit limit)
-
 module _ (ws : Words) (limit : Float) where
   within-limit : (WordsWithin ws × LimitWithin limit) ↔ None (inOrder (limitApplies ws limit))
   within-limit = also-exactly _ _ (words-exactly ws) (limit-exactly limit)
 
-  module _ (es : Edges) where
-    pub limit-accepted : (WordsWithin ws × LimitWithin limit) ↔ (moved (limitRule ws limit) es ws .answer ≡ Accepted)
-    unfolding limitRule
-    limit-accepted =
-        let e = accepted-exactly es ws (limitApplies ws limit) in
-        ((λ h. e .0 (within-limit .0 h)), (λ h. within-limit .1 (e .1 h)))
-
-    pub limit-refused : (q : Refusal) → First q (inOrder (limitApplies ws limit)) ↔ (moved (limitRule ws limit) es ws .answer ≡ Refused q)
-    unfolding limitRule
-    limit-refused q = refused-exactly es ws (limitApplies ws limit) q
+  pub limit-judged : (es : Edges) → Judged (WordsWithin ws × LimitWithin limit) (3 ∷ 4 ∷ 1 ∷ 2 ∷ []) (inOrder (limitApplies ws limit)) tt (says (moved (limitRule ws limit) es ws .answer))
+  unfolding limitRule
+  limit-judged es = moved-judged es ws (limitApplies ws limit) within-limit (listed-limit ws limit)
 
   pub limit-fine : limitRule ws limit ≡ Fine → WordsWithin ws × LimitWithin limit
   unfolding limitRule chain
   limit-fine h = within-limit .1 (fine-none (inOrder (limitApplies ws limit)) h)
 
 -- ---- words, spans, and so many places where so many are needed
-abbrev pub spansApplies : Words → Spans → ℕ → ℕ → Applies
-spansApplies ws sp places need = also (ofWords ws) (also (ofSpans sp) (ofPlaces places need))
-
 module _ (ws : Words) (sp : Spans) (places need : ℕ) where
   pub within-spans : (WordsWithin ws × (SpansWithin sp × (need ≤ places))) ↔ None (inOrder (spansApplies ws sp places need))
   within-spans = also-exactly _ _ (words-exactly ws) (also-exactly _ _ (spans-exactly sp) (places-exactly places need))
@@ -146,20 +153,17 @@ module _ (ws : Words) (sp : Spans) (places need : ℕ) where
   spans-fine h = within-spans .1 (fine-none (inOrder (spansApplies ws sp places need)) h)
 
 -- ---- words with so many phrase numbers, spans, levels and samples, and so many places where so many are needed
-abbrev pub phrasesApplies : Words → ℕ → Spans → ℕ → ℕ → ℕ → ℕ → Applies
-phrasesApplies ws phrases sp levels samples places need =
-    also (soundApplies ws levels samples) (also (ofList phrases (length (ws .starts))) (also (ofSpans sp) (ofPlaces places need)))
-
--- ---- "within the limits" for them: a phrase number for each word, and places that suffice
-abbrev pub PhrasesWithin : Words → ℕ → Spans → ℕ → ℕ → ℕ → ℕ → Type 0
-PhrasesWithin ws phrases sp levels samples places need =
-    SoundWithin ws levels samples × ((phrases ≡ length (ws .starts)) × (SpansWithin sp × (need ≤ places)))
-
 module _ (ws : Words) (phrases : ℕ) (sp : Spans) (levels samples places need : ℕ) where
   pub within-phrases : PhrasesWithin ws phrases sp levels samples places need ↔ None (inOrder (phrasesApplies ws phrases sp levels samples places need))
   within-phrases =
       also-exactly _ _ (within-sound ws levels samples)
       (also-exactly _ _ (list-exactly phrases (length (ws .starts))) (also-exactly _ _ (spans-exactly sp) (places-exactly places need)))
+
+  pub phrases-judged : (es : Edges)
+      → Judged (PhrasesWithin ws phrases sp levels samples places need) (3 ∷ 4 ∷ 1 ∷ 2 ∷ 7 ∷ 6 ∷ []) (inOrder (phrasesApplies ws phrases sp levels samples places need)) tt
+      (says (moved (phrasesRule ws phrases sp levels samples places need) es ws .answer))
+  unfolding phrasesRule
+  phrases-judged es = moved-judged es ws (phrasesApplies ws phrases sp levels samples places need) within-phrases (listed-phrases ws phrases sp levels samples places need)
 
   pub phrases-fine : phrasesRule ws phrases sp levels samples places need ≡ Fine → PhrasesWithin ws phrases sp levels samples places need
   unfolding phrasesRule chain

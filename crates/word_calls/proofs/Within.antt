@@ -2,7 +2,7 @@
 use Prim.Native.Nat.{ℕ, zero, suc, _/_, _≤_, _<_}
 use mathlib.Core.Path.{_≡_, refl, sym, ap, _∙_}
 use mathlib.Core.Bool.{Bool, true, false, cond, not, _&&_, _||_, true≢false}
-use mathlib.Core.Logic.{_↔_, _⊎_, inl, inr}
+use mathlib.Core.Logic.{_↔_, inl, inr}
 use mathlib.Core.List.{List, [], _∷_}
 use native.Mathlib.Omega.{arith}
 use borrow.Author.Tests.{ltb-true, ltb-false, le-ltb, eqb-true, eq-eqb, not-false}
@@ -12,19 +12,17 @@ use lib.Ieee.{Float, nan, inf, fin, le}
 use Rattle.base.specs.Words.{Words, Spans, count}
 use Rattle.base.specs.Parts.{OneLength}
 use Rattle.base.specs.declared.Refusal.the-variants.{Time, Letters, Lengths, Counts, Places, Levels}
-use Rattle.base.proofs.First.{None}
+use Rattle.base.specs.Refusals.{None}
 use Rattle.limits.specs.Limits.{least, most, timeOf, limitOf, isFine, badTime, badLimit, any, outside}
 use Rattle.limits.specs.Order.{inOrder}
 use Rattle.limits.proofs.Joined.{neither, both-not, when-exactly, also-exactly}
+use Rattle.word_calls.specs.Within.{Within, LimitWithin, AllWithin, AllFrom, WordsWithin, SpansWithin}
 use Rattle.word_calls.specs.Calls.{uneven, ofWords, ofSamples, ofLevels, ofTime, ofLimit, unevenSpans, manySpans, ofSpans, ofPlaces, ofList}
 use Rattle.limits.specs.declared.times.TimeTest.{TimeTest}
 use Rattle.limits.specs.declared.times.TimeTest.the-variants as time
 use Rattle.limits.proofs.Finite.{time-fine}
 
--- ---- a time from -7,200 to 7,200, which NaN and the infinities are not
-abbrev pub Within : Float → Type 0
-Within t = (le least t ≡ true) × (le t most ≡ true)
-
+-- ---- a time within its range, and a limit for evening: such a time, or +infinity
 pub within-fine : (t : Float) → Within t → badTime t ≡ false
 within-fine t h = ap (λ (x : TimeTest). not (isFine x)) (sym (time-fine t (h .0) (h .1)))
 
@@ -38,10 +36,6 @@ fine-within (fin s m e) h = go (le least (fin s m e)) (le (fin s m e) most) h
     go true true k = (refl, refl)
     go true false k = absurd (true≢false k)
     go false b k = absurd (true≢false k)
-
--- ---- a limit for evening: such a time, or +infinity
-abbrev pub LimitWithin : Float → Type 0
-LimitWithin t = Within t ⊎ (t ≡ inf false)
 
 within-limit : (t : Float) → LimitWithin t → badLimit t ≡ false
 unfolding limitOf timeOf
@@ -70,14 +64,7 @@ module _ {A : Type 0} (p : A → Bool) (d : A) where
   none-any [] h = refl
   none-any (x ∷ xs) h = both-not (h 0 (omega arith)) (none-any xs (λ (i : ℕ) (l : i < length xs). h (suc i) (omega arith)))
 
--- ---- all times of a list are within the range, all numbers of a list from the least to the most
-abbrev pub AllWithin : List Float → Type 0
-AllWithin ts = (i : ℕ) → i < length ts → Within (getD ts i nan)
-
-abbrev pub AllFrom : ℕ → ℕ → List ℕ → Type 0
-AllFrom a b ns = (i : ℕ) → i < length ns → (a ≤ getD ns i 0) × (getD ns i 0 ≤ b)
-
--- and past the end of the list a number is 0
+-- ---- numbers from a to b, and past the end of the list 0
 all-most : {a b : ℕ} (ns : List ℕ) → AllFrom a b ns → (i : ℕ) → getD ns i 0 ≤ b
 all-most {a} {b} ns h i = go (ltb i (length ns)) refl where
   go : (t : Bool) → ltb i (length ns) ≡ t → getD ns i 0 ≤ b
@@ -87,33 +74,12 @@ all-most {a} {b} ns h i = go (ltb i (length ns)) refl where
 inside : (a b n : ℕ) → outside a b n ≡ false → (a ≤ n) × (n ≤ b)
 inside a b n h = let t = neither (ltb n a) (ltb b n) h in (ltb-false n a (t .0), ltb-false b n (t .1))
 
--- ---- "How much is taken": a word list within the limits.
-pub record WordsWithin (ws : Words) : Type 0 where
-  pub ends-as-long : length (ws .ends) ≡ length (ws .starts)
-  pub letters-as-long : length (ws .letters) ≡ length (ws .starts)
-  pub units-as-long : length (ws .units) ≡ length (ws .starts)
-  pub keys-as-long : length (ws .keys) ≡ length (ws .starts)
-  pub few : length (ws .starts) ≤ 4096
-  pub starts-within : AllWithin (ws .starts)
-  pub ends-within : AllWithin (ws .ends)
-  pub letters-from-1 : AllFrom 1 1000 (ws .letters)
-  pub units-from-1 : AllFrom 1 10000 (ws .units)
-
 -- all five lists are of one length
 pub one-length : {ws : Words} → WordsWithin ws → OneLength (count ws) ws
 one-length w = (sym (w .keys-as-long), (w .ends-as-long ∙ sym (w .keys-as-long), (w .letters-as-long ∙ sym (w .keys-as-long), (w .units-as-long ∙ sym (w .keys-as-long), refl))))
 
 pub letters-most : {ws : Words} → WordsWithin ws → (i : ℕ) → getD (ws .letters) i 0 ≤ 1000
 letters-most {ws} w i = all-most (ws .letters) (w .letters-from-1) i
-
--- ---- A list of spans within the limits.
-pub record SpansWithin (sp : Spans) : Type 0 where
-  pub ends-as-long : length (sp .ends) ≡ length (sp .starts)
-  pub counts-as-long : length (sp .counts) ≡ length (sp .starts)
-  pub few : length (sp .starts) ≤ 4096
-  pub counts-to-4096 : AllFrom 0 4096 (sp .counts)
-  pub starts-within : AllWithin (sp .starts)
-  pub ends-within : AllWithin (sp .ends)
 
 -- two lengths that do not differ
 alike : {a b : ℕ} → not (eqb a b) ≡ false → a ≡ b

@@ -1,5 +1,6 @@
 -- Calls on words: which refusals apply, and what a call answers and leaves that moves only times. Assumes nothing.
 use Prim.Native.Nat.{ℕ}
+use mathlib.Core.Path.{_≡_}
 use mathlib.Core.Bool.{Bool, _||_}
 use lib.ListN.{length}
 use lib.Ieee.{Float}
@@ -64,26 +65,41 @@ ofPlaces places need = when (fewPlaces places need) Places
 unfoldable pub ofList : ℕ → ℕ → Applies
 ofList list words = when (differ list words) Lengths
 
--- ---- What the tests find of a stage on sound: 3, 4, 1, 2, 7.
+-- ---- The tests of a stage on sound, and the first that applies: 3, 4, 1, 2, 7.
+abbrev pub soundApplies : Words → ℕ → ℕ → Applies
+soundApplies ws levels samples = also (ofWords ws) (ofLevels levels samples)
+
 unfoldable pub soundRule : Words → ℕ → ℕ → Rule
-soundRule ws levels samples = chain (also (ofWords ws) (ofLevels levels samples))
+soundRule ws levels samples = chain (soundApplies ws levels samples)
 
 -- ---- The same, with a duration among the times.
+abbrev pub timedApplies : Words → ℕ → ℕ → Float → Applies
+timedApplies ws levels samples duration = also (soundApplies ws levels samples) (ofTime duration)
+
 unfoldable pub timedRule : Words → ℕ → ℕ → Float → Rule
-timedRule ws levels samples duration = chain (also (also (ofWords ws) (ofLevels levels samples)) (ofTime duration))
+timedRule ws levels samples duration = chain (timedApplies ws levels samples duration)
 
--- ---- What the tests find of words and a limit for evening: 3, 4, 1, 2.
+-- ---- Those of words and a limit for evening: 3, 4, 1, 2.
+abbrev pub limitApplies : Words → Float → Applies
+limitApplies ws limit = also (ofWords ws) (ofLimit limit)
+
 unfoldable pub limitRule : Words → Float → Rule
-limitRule ws limit = chain (also (ofWords ws) (ofLimit limit))
+limitRule ws limit = chain (limitApplies ws limit)
 
--- ---- What the tests find of words, spans, and so many places where so many are needed: 3, 4, 1, 2, 6.
+-- ---- Those of words, spans, and so many places where so many are needed: 3, 4, 1, 2, 6.
+abbrev pub spansApplies : Words → Spans → ℕ → ℕ → Applies
+spansApplies ws sp places need = also (ofWords ws) (also (ofSpans sp) (ofPlaces places need))
+
 unfoldable pub spansRule : Words → Spans → ℕ → ℕ → Rule
-spansRule ws sp places need = chain (also (ofWords ws) (also (ofSpans sp) (ofPlaces places need)))
+spansRule ws sp places need = chain (spansApplies ws sp places need)
 
--- ---- What the tests find of words with so many phrase numbers, spans, levels and samples, and so many places where so many are needed: 3, 4, 1, 2, 7, 6.
+-- ---- Those of words with so many phrase numbers, spans, levels and samples, and so many places where so many are needed: 3, 4, 1, 2, 7, 6.
+abbrev pub phrasesApplies : Words → ℕ → Spans → ℕ → ℕ → ℕ → ℕ → Applies
+phrasesApplies ws phrases sp levels samples places need =
+    also (soundApplies ws levels samples) (also (ofList phrases (length (ws .starts))) (also (ofSpans sp) (ofPlaces places need)))
+
 unfoldable pub phrasesRule : Words → ℕ → Spans → ℕ → ℕ → ℕ → ℕ → Rule
-phrasesRule ws phrases sp levels samples places need =
-    chain (also (also (ofWords ws) (ofLevels levels samples)) (also (ofList phrases (length (ws .starts))) (also (ofSpans sp) (ofPlaces places need))))
+phrasesRule ws phrases sp levels samples places need = chain (phrasesApplies ws phrases sp levels samples places need)
 
 -- ---- What a call gives back that moves the words' times, and what the words are afterwards.
 pub record Output : Type 0 where
@@ -97,3 +113,9 @@ output a ws = record { answer = a; words = ws }
 abbrev pub moved : Rule → Edges → Words → Output
 moved Fine es ws = output Accepted (withEdges es ws)
 moved (Breaks r) es ws = output (Refused r) ws
+
+-- ---- What no such call changes: letters, units and keys.
+pub record Keeps (before after : Words) : Type 0 where
+  pub letters : after .letters ≡ before .letters
+  pub units : after .units ≡ before .units
+  pub keys : after .keys ≡ before .keys

@@ -1,2 +1,3 @@
--- What calls on words test, and what those answer and leave that move only times.
+-- What calls on words take, what they test, and what those answer and leave that move only times.
+pub mod Within
 pub mod Calls

@@ -1,22 +1,23 @@
--- `job_io::hear` meets its contract: after each stretch the first places hold the levels of all samples so far. Assumes nothing.
-use Rattle.job_io.proofs.Hearing.{came, stretch-long, stretch-fits, Hearing, hearing-none, hearing-next, hearing-all}
-use Rattle.job_io.proofs.Places.{part-kept}
-use lib.ListN.{length-take, length}
-use mathlib.Core.Path.{_∙_, _≡_, refl, sym}
+-- `job_io::hear` meets its contract: after each stretch the first places hold the levels of all samples so far, and the buffer the bytes of the last. Assumes nothing.
+use Rattle.job_io.proofs.Hearing.{stretch-fits, frames-whole, Hearing, hearing-none, hearing-next, hearing-part, hearing-all}
+use Rattle.job.proofs.Places.{front-long, part-kept}
+use lib.Dec.{ltb}
+use lib.ListN.{length}
+use mathlib.Core.Path.{_∙_, _≡_, refl, ap}
 use Prim.Native.Nat.{_*_, _/_, _-_, _≤_}
-use mathlib.Core.Bool.{true≢false}
 use native.Mathlib.Omega.{arith}
 use Rattle.job_io.proofs.hear.Statement.{statement}
 use Rattle.job_io.proofs.hear.Tie as tie
 
 abbrev Inv-loop : tie.InvT-loop
-Inv-loop count bytes₀ samples₀ levels₀ done₀ bytes samples levels done = (done ≤ count) × ((length bytes ≡ length bytes₀) × ((length samples ≡ length samples₀) × ((length levels ≡ length levels₀) × Hearing count done levels₀ levels)))
+Inv-loop from count bytes₀ samples₀ levels₀ came₀ done₀ bytes samples levels came done =
+    (done ≤ count) × ((length bytes ≡ length bytes₀) × ((length samples ≡ length samples₀) × ((length levels ≡ length levels₀) × Hearing count done came bytes levels₀ levels)))
 
 abbrev μ-loop : tie.MeasureT-loop
-μ-loop count bytes₀ samples₀ levels₀ done₀ bytes samples levels done = count - done
+μ-loop from count bytes₀ samples₀ levels₀ came₀ done₀ bytes samples levels came done = count - done
 
 loop-holds : tie.Need-loop-holds Inv-loop μ-loop
-loop-holds c = (omega arith, (refl, (refl, (refl, hearing-none _ _))))
+loop-holds c = (omega arith, (refl, (refl, (refl, hearing-none _ _ _))))
 
 sub-least : tie.Need-sub-least Inv-loop μ-loop
 sub-least c = omega arith
@@ -59,54 +60,37 @@ part-hear-stretch-end-3 c = omega arith
 
 hear-stretch-requires : tie.Need-hear-stretch-requires Inv-loop μ-loop
 hear-stretch-requires c κs =
-    let at3 = c .before .before .before in
-    let at4 = at3 .before in
-    let at5 = at4 .before in
+    let at5 = c .before .before .before .before .before in
     let at9 = at5 .before .before .before .before in
-    let pre = at9 .pre in (
-      simp length-take
-          (omega (
-            arith,
-            (at3 .least .ensures),
-            (pre .0),
-            (pre .1 .0),
-            (pre .1 .1 .0),
-            (pre .1 .1 .1),
-            (at5 .loop .inv .0),
-            (at5 .loop .inv .1 .0),
-            (at5 .loop .inv .1 .1 .0),
-            (at5 .loop .inv .1 .1 .1 .0),
-          )),
+    let loop = at5 .loop in
+    let pre = at9 .pre in
+    let least = c .before .before .before .least in
+    let n = least .result in
+    let inv = loop .inv in
+    let bytes-fit = front-long (loop .bytes) (4 * n) (omega (arith, least .ensures, pre .1 .1 .0, inv .1 .0)) in
+    let samples-fit = front-long (loop .samples) n (omega (arith, least .ensures, pre .1 .1 .1, inv .1 .1 .0)) in
+    let more = c .before .before .before .before .loop-test .taken in (
+      bytes-fit ∙ (omega (arith, samples-fit)),
       (
-        simp length-take
-            (omega (
-              arith,
-              (at3 .least .ensures),
-              (pre .0),
-              (pre .1 .0),
-              (pre .1 .1 .0),
-              (pre .1 .1 .1),
-              (at5 .loop .inv .0),
-              (at5 .loop .inv .1 .0),
-              (at5 .loop .inv .1 .1 .0),
-              (at5 .loop .inv .1 .1 .1 .0),
-            )),
-        stretch-fits (at5 .loop .samples) (at5 .loop .levels) (at3 .least .ensures) (at4 .loop-test .taken)
-            (at5 .loop .inv .1 .1 .1 .1 .frames-whole (at4 .loop-test .taken)) ((at5 .loop .inv .1 .1 .1 .0) ∙ pre .1 .0)
-            (omega (
-              arith,
-              (at3 .least .ensures),
-              (pre .0),
-              (pre .1 .0),
-              (pre .1 .1 .0),
-              (pre .1 .1 .1),
-              (at5 .loop .inv .0),
-              (at5 .loop .inv .1 .0),
-              (at5 .loop .inv .1 .1 .0),
-              (at5 .loop .inv .1 .1 .1 .0),
-            )),
+        omega (arith, samples-fit, least .ensures),
+        stretch-fits (loop .samples) (loop .levels) n _ (omega (arith, least .ensures)) (frames-whole _ (inv .1 .1 .1 .1 .stretches-whole more)) (omega arith) more
+            (inv .1 .1 .1 .0 ∙ pre .1 .0) (omega (arith, least .ensures, pre .1 .1 .1, inv .1 .1 .0)),
       ),
     )
+
+add-came : tie.Need-add-came Inv-loop μ-loop
+add-came c =
+    let at7 = c .before .before .before .before .before .before .before in
+    let at11 = at7 .before .before .before .before in
+    let at13 = at11 .before .before in
+    let at17 = at13 .before .before .before .before in
+    let loop = at13 .loop in
+    let pre = at17 .pre in
+    let least = at11 .least in
+    let n = least .result in
+    let inv = loop .inv in
+    let bytes-fit = front-long (loop .bytes) (4 * n) (omega (arith, least .ensures, pre .1 .1 .0, inv .1 .0)) in
+    omega (arith, bytes-fit, at7 .hear-stretch .ensures .1 .0, inv .0, inv .1 .1 .1 .1 .counted, least .ensures, pre .0)
 
 same-length : tie.Need-same-length Inv-loop μ-loop
 same-length c = omega arith
@@ -118,7 +102,22 @@ same-length-3 : tie.Need-same-length-3 Inv-loop μ-loop
 same-length-3 c = omega arith
 
 returns : tie.Need-returns Inv-loop μ-loop
-returns c = (λ e. absurd (true≢false (sym e)), λ e. omega arith)
+returns c =
+    let at8 = c .before .before .before .before .before .before .before .before in
+    let at12 = at8 .before .before .before .before in
+    let at13 = at12 .before in
+    let at14 = at13 .before in
+    let at18 = at14 .before .before .before .before in
+    let loop = at14 .loop in
+    let pre = at18 .pre in
+    let least = at12 .least in
+    let n = least .result in
+    let inv = loop .inv in
+    let bytes-fit = front-long (loop .bytes) (4 * n) (omega (arith, least .ensures, pre .1 .1 .0, inv .1 .0)) in
+    let step = at8 .hear-stretch in
+    let got = step .result .bytes in
+    hearing-part _ _ (inv .1 .1 .1 .1) (at13 .loop-test .taken) (least .ensures) refl (pre .1 .0) got (step .last .1 .0) _ _ (step .kept .1 .0 ∙ bytes-fit) (c .if1 .taken)
+    (step .ensures .1 .1 ∙ ap (ltb got) bytes-fit) refl
 
 add-done : tie.Need-add-done Inv-loop μ-loop
 add-done c = omega arith
@@ -128,20 +127,31 @@ loop-less c = omega arith
 
 loop-again : tie.Need-loop-again Inv-loop μ-loop
 loop-again c =
-    let at7 = c .before .before .before .before .before .before .before in
-    let at11 = at7 .before .before .before .before in
-    let at12 = at11 .before in
+    let at8 = c .before .before .before .before .before .before .before .before in
+    let at12 = at8 .before .before .before .before in
     let at13 = at12 .before in
-    let at17 = at13 .before .before .before .before in
-    let pre = at17 .pre in (
-      omega (arith, (at11 .least .ensures), (pre .0), (pre .1 .0), (pre .1 .1 .0), (pre .1 .1 .1), (at13 .loop .inv .0), (at13 .loop .inv .1 .0), (at13 .loop .inv .1 .1 .0), (at13 .loop .inv .1 .1 .1 .0)),
+    let at14 = at13 .before in
+    let at18 = at14 .before .before .before .before in
+    let loop = at14 .loop in
+    let pre = at18 .pre in
+    let least = at12 .least in
+    let n = least .result in
+    let inv = loop .inv in
+    let bytes-fit = front-long (loop .bytes) (4 * n) (omega (arith, least .ensures, pre .1 .1 .0, inv .1 .0)) in
+    let step = at8 .hear-stretch in
+    let got = step .result .bytes in
+    let more = at13 .loop-test .taken in
+    let samples-fit = front-long (loop .samples) n (omega (arith, least .ensures, pre .1 .1 .1, inv .1 .1 .0)) in (
+      omega (arith, least .ensures, inv .0),
       (
-        part-kept (at13 .loop .bytes) (at7 .hear-stretch .last .0) 0 (4 * (at11 .least .result)) (omega arith) (omega (arith, (at11 .least .ensures), (pre .0), (pre .1 .0), (pre .1 .1 .0), (pre .1 .1 .1), (at13 .loop .inv .0), (at13 .loop .inv .1 .0), (at13 .loop .inv .1 .1 .0), (at13 .loop .inv .1 .1 .1 .0))) (at7 .hear-stretch .kept .0) ∙ (at13 .loop .inv .1 .0),
+        part-kept (loop .bytes) (step .last .1 .0) 0 (4 * n) (omega arith) (omega (arith, least .ensures, pre .1 .1 .0, inv .1 .0)) (step .kept .1 .0) ∙ inv .1 .0,
         (
-          part-kept (at13 .loop .samples) (at7 .hear-stretch .last .1 .0) 0 (at11 .least .result) (omega arith) (omega (arith, (at11 .least .ensures), (pre .0), (pre .1 .0), (pre .1 .1 .0), (pre .1 .1 .1), (at13 .loop .inv .0), (at13 .loop .inv .1 .0), (at13 .loop .inv .1 .1 .0), (at13 .loop .inv .1 .1 .1 .0))) (at7 .hear-stretch .kept .1 .0) ∙ (at13 .loop .inv .1 .1 .0),
+          part-kept (loop .samples) (step .last .1 .1 .0) 0 n (omega arith) (omega (arith, least .ensures, pre .1 .1 .1, inv .1 .1 .0)) (step .kept .1 .1 .0) ∙ inv .1 .1 .0,
           (
-            part-kept (at13 .loop .levels) (at7 .hear-stretch .last .1 .1 .0) (at13 .loop .done / 160) (length (at13 .loop .levels)) (omega (arith, (at11 .least .ensures), (pre .0), (pre .1 .0), (pre .1 .1 .0), (pre .1 .1 .1), (at13 .loop .inv .0), (at13 .loop .inv .1 .0), (at13 .loop .inv .1 .1 .0), (at13 .loop .inv .1 .1 .1 .0))) (omega arith) (at7 .hear-stretch .kept .1 .1 .0) ∙ (at13 .loop .inv .1 .1 .1 .0),
-            hearing-next _ _ (at13 .loop .inv .1 .1 .1 .1) (at12 .loop-test .taken) (at11 .least .ensures) refl (pre .1 .0) (stretch-long (at13 .loop .samples) (at11 .least .result) (omega (arith, (at11 .least .ensures), (pre .0), (pre .1 .0), (pre .1 .1 .0), (pre .1 .1 .1), (at13 .loop .inv .0), (at13 .loop .inv .1 .0), (at13 .loop .inv .1 .1 .0), (at13 .loop .inv .1 .1 .1 .0)))) (at7 .hear-stretch .ensures (came _ (c .if1 .left))) refl,
+            part-kept (loop .levels) (step .last .1 .1 .1 .0) _ (length (loop .levels)) (omega (arith, more, pre .1 .0, inv .1 .1 .1 .0)) (omega arith) (step .kept .1 .1 .1 .0)
+                ∙ inv .1 .1 .1 .0,
+            hearing-next _ _ (inv .1 .1 .1 .1) more (least .ensures) refl (pre .1 .0) (step .last .1 .0) samples-fit (step .kept .1 .0 ∙ bytes-fit) (c .if1 .left)
+                (omega (arith, step .ensures .1 .0, bytes-fit)) (step .ensures .1 .1 ∙ ap (ltb got) bytes-fit) (step .ensures .0) refl refl,
           ),
         ),
       ),
@@ -157,7 +167,10 @@ same-length-6 : tie.Need-same-length-6 Inv-loop μ-loop
 same-length-6 c = omega arith
 
 returns-2 : tie.Need-returns-2 Inv-loop μ-loop
-returns-2 c = (λ e. hearing-all _ _ (c .before .loop .inv .1 .1 .1 .1) (c .before .loop .inv .0) (c .loop-test .left) (c .before .before .before .before .before .pre .1 .0), λ e. absurd (true≢false e))
+returns-2 c =
+    let at5 = c .before .before .before .before .before in
+    let inv = c .before .loop .inv in
+    hearing-all _ _ (inv .1 .1 .1 .1) (inv .0) (c .loop-test .left) (at5 .pre .1 .0)
 
 pub hear-spec : {M : Type 1} → statement M
 hear-spec =
@@ -180,6 +193,7 @@ hear-spec =
     part-hear-stretch-start-3
     part-hear-stretch-end-3
     hear-stretch-requires
+    add-came
     same-length
     same-length-2
     same-length-3

@@ -25,38 +25,76 @@ loop-holds : tie.Need-loop-holds Inv-loop μ-loop
 unfolding handBackTails
 loop-holds c = (omega arith, (refl, (refl, refl)))
 
-mul-t9 : tie.Need-mul-t9 Inv-loop μ-loop
-mul-t9 c = omega arith
+sub-t10 : tie.Need-sub-t10 Inv-loop μ-loop
+sub-t10 c = omega arith
 
-slice-read-t12 : tie.Need-slice-read-t12 Inv-loop μ-loop
-slice-read-t12 c = omega arith
+mul-t12 : tie.Need-mul-t12 Inv-loop μ-loop
+mul-t12 c = omega arith
 
-mul-tail-of : tie.Need-mul-tail-of Inv-loop μ-loop
-mul-tail-of c = omega arith
+slice-read-t14 : tie.Need-slice-read-t14 Inv-loop μ-loop
+slice-read-t14 c = omega arith
 
-slice-read-tail-of : tie.Need-slice-read-tail-of Inv-loop μ-loop
-slice-read-tail-of c = omega arith
+sub-t15 : tie.Need-sub-t15 Inv-loop μ-loop
+sub-t15 c = omega arith
 
-sub-tail-of : tie.Need-sub-tail-of Inv-loop μ-loop
-sub-tail-of c = omega arith
+mul-t16 : tie.Need-mul-t16 Inv-loop μ-loop
+mul-t16 c = omega arith
 
-mul-tail-of-2 : tie.Need-mul-tail-of-2 Inv-loop μ-loop
-mul-tail-of-2 c = omega arith
+slice-read-t18 : tie.Need-slice-read-t18 Inv-loop μ-loop
+slice-read-t18 c = omega arith
 
-slice-read-tail-of-2 : tie.Need-slice-read-tail-of-2 Inv-loop μ-loop
-slice-read-tail-of-2 c = omega arith
+mul-t10 : tie.Need-mul-t10 Inv-loop μ-loop
+mul-t10 c = omega arith
 
-mul-tail-of-3 : tie.Need-mul-tail-of-3 Inv-loop μ-loop
-mul-tail-of-3 c = omega arith
+slice-read-t18-2 : tie.Need-slice-read-t18-2 Inv-loop μ-loop
+slice-read-t18-2 c = omega arith
 
-shared-slice-read-tail-of : tie.Need-shared-slice-read-tail-of Inv-loop μ-loop
-shared-slice-read-tail-of c = omega arith
+mul-t16-2 : tie.Need-mul-t16-2 Inv-loop μ-loop
+mul-t16-2 c = omega arith
 
-tail-of-requires : tie.Need-tail-of-requires Inv-loop μ-loop
-tail-of-requires c κs = (omega arith, c .before .before .before .before .before .before .before .before .before .before .pre .1 .1 .1 _)
+slice-read-t14-2 : tie.Need-slice-read-t14-2 Inv-loop μ-loop
+slice-read-t14-2 c = omega arith
+
+mul-hand-back : tie.Need-mul-hand-back Inv-loop μ-loop
+mul-hand-back c = omega arith
+
+shared-slice-read-hand-back : tie.Need-shared-slice-read-hand-back Inv-loop μ-loop
+shared-slice-read-hand-back c = omega arith
 
 hand-back-requires : tie.Need-hand-back-requires Inv-loop μ-loop
-hand-back-requires c κs = omega arith
+hand-back-requires c κs = (omega arith, c .before .before .before .before .before .before .before .before .before .before .before .pre .1 .1 .1 _)
+
+sub-starts : tie.Need-sub-starts Inv-loop μ-loop
+sub-starts c = omega arith
+
+mul-starts : tie.Need-mul-starts Inv-loop μ-loop
+mul-starts c = omega arith
+
+slice-write-starts : tie.Need-slice-write-starts Inv-loop μ-loop
+slice-write-starts c = omega arith
+
+sub-ends : tie.Need-sub-ends Inv-loop μ-loop
+sub-ends c = omega arith
+
+mul-ends : tie.Need-mul-ends Inv-loop μ-loop
+mul-ends c = omega arith
+
+slice-write-ends : tie.Need-slice-write-ends Inv-loop μ-loop
+slice-write-ends c = omega arith
+
+mul-starts-2 : tie.Need-mul-starts-2 Inv-loop μ-loop
+mul-starts-2 c = omega arith
+
+slice-write-starts-2 : tie.Need-slice-write-starts-2 Inv-loop μ-loop
+slice-write-starts-2 c = search needs
+
+mul-ends-2 : tie.Need-mul-ends-2 Inv-loop μ-loop
+mul-ends-2 c = omega arith
+
+slice-write-ends-2 : tie.Need-slice-write-ends-2 Inv-loop μ-loop
+slice-write-ends-2 c =
+    let at7 = c .before .before .before .before .before .before .before in
+    let l : at7 .loop .i < length (at7 .loop .ends) = omega arith in search (needs, l)
 
 add-i : tie.Need-add-i Inv-loop μ-loop
 add-i c = omega arith
@@ -66,17 +104,15 @@ loop-less c = omega arith
 
 loop-again : tie.Need-loop-again Inv-loop μ-loop
 loop-again c =
-    let at4 = c .before .before .before .before in
-    let at7 = at4 .before .before .before in
-    let at13 = at7 .before .before .before .before .before .before in
-    let at18 = at13 .before .before .before .before .before in (
+    let at7 = c .before .before .before .before .before .before .before in
+    let at12 = at7 .before .before .before .before .before in (
       omega arith,
       (
         search needs,
         (
           search needs,
-          at13 .loop .inv .1 .1 .1
-              ∙ each-next _ _ _ (omega arith) (tail-turn _ _ _ _ _ (at18 .args .letters .now) (at7 .tail-of .ensures) (at4 .hand-back .ensures)),
+          at7 .loop .inv .1 .1 .1
+              ∙ each-next _ _ _ (omega arith) (tail-turn _ (at12 .args .letters .now) _ _ _ (c .hand-back .ensures)),
         ),
       ),
     )
@@ -97,17 +133,29 @@ move-tails-spec =
     Inv-loop
     μ-loop
     loop-holds
-    mul-t9
-    slice-read-t12
-    mul-tail-of
-    slice-read-tail-of
-    sub-tail-of
-    mul-tail-of-2
-    slice-read-tail-of-2
-    mul-tail-of-3
-    shared-slice-read-tail-of
-    tail-of-requires
+    sub-t10
+    mul-t12
+    slice-read-t14
+    sub-t15
+    mul-t16
+    slice-read-t18
+    mul-t10
+    slice-read-t18-2
+    mul-t16-2
+    slice-read-t14-2
+    mul-hand-back
+    shared-slice-read-hand-back
     hand-back-requires
+    sub-starts
+    mul-starts
+    slice-write-starts
+    sub-ends
+    mul-ends
+    slice-write-ends
+    mul-starts-2
+    slice-write-starts-2
+    mul-ends-2
+    slice-write-ends-2
     add-i
     loop-less
     loop-again

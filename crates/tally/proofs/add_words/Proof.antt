@@ -7,7 +7,8 @@ use lib.ListN.{length}
 use Rattle.base.specs.Words.{edges}
 use Rattle.envelope.specs.Envelope.{loudRow}
 use Rattle.envelope.proofs.Scan.{length-row}
-use Rattle.tally.proofs.Sums.{filled, pass-starts, pass-room, pass-next, pass-done}
+use Rattle.tally.specs.Parts.{filled}
+use Rattle.tally.proofs.Sums.{pass-starts, pass-room, pass-next, pass-done}
 use Rattle.tally.proofs.add_words.Statement.{statement}
 use Rattle.tally.proofs.add_words.Tie as tie
 

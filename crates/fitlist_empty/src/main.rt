@@ -1,4 +1,0 @@
-// A stored run of `fitlist`: an empty job: nothing is printed.
-fn main() {
-    job_io::run();
-}

@@ -1,4 +1,0 @@
-// A stored run of `fitlist`: more words than a job may have.
-fn main() {
-    job_io::run();
-}

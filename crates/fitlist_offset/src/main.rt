@@ -1,4 +1,0 @@
-// A stored run of `fitlist`: a gap between the bodies.
-fn main() {
-    job_io::run();
-}

@@ -1,4 +1,0 @@
-// A stored run of `fitlist`: a table that is not whole.
-fn main() {
-    job_io::run();
-}
