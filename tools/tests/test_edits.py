@@ -132,12 +132,14 @@ class Logs(Tree):
         self.edit(GOOD)
         self.tried(message + "\n" + END, **how)
         status, lines = self.run_it()
-        self.assertEqual(status, 0, lines)
         name = None
         for line in lines:
             if m := re.match(r"(a fact fails|in a law|shape or name|unclear): \d+$", line):
                 name = m.group(1)
             if line.startswith("  c/e: "):
+                wrong = {"shape or name": ["crates/c/must-fail/e.edit: it is refused for its shape or a name"], "unclear": ["crates/c/must-fail/e.edit: what refuses it is unclear"]}.get(name, [])
+                self.assertEqual((status, lines[-1 - len(wrong) : -1] if wrong else []), (len(wrong), wrong))
+                self.assertEqual(lines[-1], f"edits: 1 edits, 1 replacements, {len(wrong)} wrong")
                 return name, line.strip()
         self.fail(f"no line for the edit: {lines}")
         return None
@@ -169,6 +171,12 @@ class Logs(Tree):
         self.assertEqual(group, "in a law")
         self.assertTrue(line.endswith("(later a fact fails, proofs/two/Proof.antt:7)"), line)
         self.assertEqual(self.one(f"COPY/proofs/Laws.antt:7:3: error: `law`: {NO_FIELD}")[0], "shape or name")
+
+    def test_what_failed_of_a_law(self):
+        self.file("crates/c/proofs/Laws.antt", "use a.B.{c}\n\n-- A law.\npub law : (a : ℕ)\n    → two a ≡ 2\nlaw a = refl\npub pair : A × B\npair = (refl,\n    refl)   -- both\nlong : A\nlong = cong f\n    (step refl)\n")
+        for line, said in ((5, "its statement: "), (6, "its statement: "), (9, "its statement: "), (10, "its statement: "), (11, "a step of its proof: "), (12, "a step of its proof: "), (99, "")):
+            with self.subTest(line=line):
+                self.assertEqual(self.one(f"COPY/proofs/Laws.antt:{line}:3: error: `law`: {DIFFERS}"), ("in a law", f"c/e: proofs/Laws.antt:{line}: {said}`law`: {DIFFERS}"))
 
     def test_not_proved_by_search(self):
         group, line = self.one("fn c::one: proved\nnote: COPY/src/lib.rt:5:1: it is not proved that what the function ensures holds when it returns (`returns`)")
@@ -253,7 +261,7 @@ class Logs(Tree):
                 status, lines = self.run_it()
                 self.assertEqual(status, 1)
                 self.assertIn(f"crates/c/must-fail/e.edit: {said}", lines)
-                self.assertEqual(lines[-1], "edits: 1 edits, 1 replacements, 0 wrong")
+                self.assertEqual(lines[-1], "edits: 1 edits, 1 replacements, 1 wrong")
                 self.assertEqual(self.run_it("--text")[0], 0)
 
     def test_further_logs_stand_apart(self):
@@ -263,12 +271,13 @@ class Logs(Tree):
         self.tried(f"COPY/proofs/two/Proof.antt:7:3: error: `returns`: {DIFFERS}\n{END}", further=True)
         self.assertIn("tried: 1 (1 a fact fails, 0 in a law, 0 shape or name, 0 unclear, 0 not refused)", self.run_it()[1])
 
-    def test_edits_of_proofs_are_listed(self):
+    def test_edits_of_proofs_are_wrong(self):
         self.edit(GOOD)
         self.edit("file: proofs/two/Proof.antt\nold: refl\nnew: sym refl\n", "p", further=True)
+        wrong = ["crates/c/must-fail/further/p.edit: it changes proofs/two/Proof.antt: an edit is of src/ or specs/", "edits: 2 edits, 2 replacements, 1 wrong"]
+        self.assertEqual(self.run_it("--text"), (1, wrong))
         status, lines = self.run_it()
-        self.assertEqual(status, 0)
-        self.assertEqual(lines[:2], ["edits of proofs/: 1", "  c/p (further): proofs/two/Proof.antt"])
+        self.assertEqual((status, lines[-2:]), (1, wrong))
 
 
 if __name__ == "__main__":

@@ -10,7 +10,10 @@ TOOL = os.path.join(os.path.dirname(os.path.abspath(__file__)), "..", "statement
 ROW = "| a sentence | `twice` | `crates/c/specs/Twice.antt` |"
 CALL = "| Rust, `two` | `twice` | `crates/c/specs/Twice.antt` | `two` | `crates/c/src/lib.rt` |"
 WALK = "c::two\n  c::part::one, other            the first, then others\n"
-PROMISE = "| `two` | `twice` | `three` |"
+PUBLIC = "| `c` | `two` | `twice` | `crates/c/specs/Twice.antt` | 3, 4 |"
+PARTS = "| `c` | `part::one` |"
+PROMISE = "| `two()` | `twice` | `three` (a remark with `a name`), `once` † |"
+HEAD = "| crate | call | definition | its file | refusals |\n|---|---|---|---|---|\n"
 
 
 class Documents(unittest.TestCase):
@@ -23,7 +26,8 @@ class Documents(unittest.TestCase):
         self.file("crates/c/src/lib.rt", "pub mod part;\npub fn two() -> u32 {\n    2\n}\n")
         self.file("crates/c/src/part.rt", "pub fn one() -> u32 {\n    1\n}\nfn other() {}\n")
         self.file("crates/c/specs/Twice.antt", "unfoldable pub twice : ℕ\ntwice = 2\n")
-        self.file("crates/c/must-fail/three.edit", "file: src/lib.rt\nold: 2\nnew: 3\n")
+        self.edit("c", "three")
+        self.edit("c", "once", part="specs/Twice.antt")
         self.documents()
 
     def file(self, name, text):
@@ -32,14 +36,26 @@ class Documents(unittest.TestCase):
         with open(path, "w", encoding="utf-8") as f:
             f.write(text)
 
-    def documents(self, row=ROW, call=CALL, walk=WALK, limits="", promise=PROMISE):
+    def edit(self, crate, name, folder="must-fail", part="src/lib.rt"):
+        self.file(f"crates/{crate}/{folder}/{name}.edit", f"file: {part}\nold: 2\nnew: 3\n")
+
+    def second_crate(self):
+        """A crate d like c, in one section with it."""
+        self.file("crates/d/src/lib.rt", "pub fn too() -> u32 {\n    2\n}\n")
+        self.edit("d", "three")
+        self.edit("d", "four")
+
+    def documents(self, row=ROW, call=CALL, walk=WALK, limits="", public=PUBLIC, parts=PARTS, section="`c`", promise=PROMISE, after=""):
         self.file("docs/STATEMENTS.md", f"| clause | name | file |\n|---|---|---|\n{row}\n")
         self.file(
             "docs/ARCHITECTURE.md",
             f"| crate | holds |\n|---|---|\n| `c` | two |\n\n| source | definition | its file | code | its file |\n|---|---|---|---|---|\n{call}\n\n```text\n{walk}```\n",
         )
         self.file("docs/LIMITS.md", f"| call | definition | file |\n|---|---|---|\n| `c::two` | `twice` | `crates/c/specs/Twice.antt` |\n\n{limits}\n")
-        self.file("docs/PROMISES.md", f"## `c`\n\n| call | definition | refused edits |\n|---|---|---|\n{promise}\n")
+        self.file(
+            "docs/PROMISES.md",
+            f"{HEAD}{public}\n\n| crate | unchecked parts |\n|---|---|\n{parts}\n\n## {section}\n\n| call | definition | refused edits |\n|---|---|---|\n{promise}\n{after}\n",
+        )
 
     def run_it(self):
         done = subprocess.run([sys.executable, os.path.join(self.folder, "tools", "statements")], stdout=subprocess.PIPE, encoding="utf-8", check=False)
@@ -51,7 +67,7 @@ class Documents(unittest.TestCase):
 
     def test_a_tree_that_holds(self):
         status, lines = self.run_it()
-        self.assertEqual((status, lines), (0, ["statements: 8 names in 3 files, 1 edits of the gate and 0 further ones, 0 wrong"]))
+        self.assertEqual((status, lines), (0, ["statements: 9 names in 3 files, 2 edits of the gate and 0 further ones, 0 wrong"]))
 
     def test_a_name_that_is_gone(self):
         self.documents(row=ROW.replace("`twice`", "`thrice`"))
@@ -96,16 +112,87 @@ class Documents(unittest.TestCase):
         self.wrong("docs/LIMITS.md:5: no d::part in the code")
 
     def test_an_edit_in_both_folders(self):
-        self.file("crates/c/must-fail/further/three.edit", "file: src/lib.rt\nold: 2\nnew: 4\n")
-        self.wrong("docs/PROMISES.md:5: the edit three of c is in must-fail/ and in further/")
+        self.edit("c", "three", "must-fail/further")
+        self.wrong("docs/PROMISES.md:14: the edit three of c is in must-fail/ and in further/")
 
     def test_an_edit_that_is_gone(self):
         self.documents(promise=PROMISE.replace("`three`", "`three`, `four`"))
-        self.wrong("docs/PROMISES.md:5: no edit four in the crates that are named there")
+        self.wrong("docs/PROMISES.md:13: no edit four of c")
 
     def test_an_edit_named_nowhere(self):
-        self.file("crates/c/must-fail/further/four.edit", "file: src/lib.rt\nold: 2\nnew: 4\n")
-        self.wrong("docs/PROMISES.md:5: the edit four of c is named nowhere")
+        self.edit("c", "four", "must-fail/further")
+        self.wrong("docs/PROMISES.md:14: the edit four of c is named nowhere")
+
+    def test_marks(self):
+        self.documents(promise=PROMISE.replace("`three`", "`three` ‡"))
+        self.assertIn("docs/PROMISES.md:13: no further edit three of c", self.run_it()[1])
+        self.documents(promise=PROMISE.replace("`three`", "`three` †"))
+        self.wrong("docs/PROMISES.md:13: the edit three of c changes src/, and is marked †")
+        self.documents(promise=PROMISE.replace(" †", ""))
+        self.wrong("docs/PROMISES.md:13: the edit once of c changes no file of src/, and is not marked †")
+
+    def test_a_public_call_that_requires(self):
+        self.file("crates/c/src/lib.rt", "pub mod part;\n// It requires { nothing }.\npub fn two() -> u32 {\n    2\n}\nfn own()\n    requires { ⌜ a ⌝ }\n{\n}\n")
+        self.assertEqual(self.run_it()[0], 0)
+        self.file("crates/c/src/lib.rt", "pub mod part;\npub fn two() -> u32\n    requires { ⌜ a ⌝ }\n{\n    2\n}\n")
+        self.wrong("docs/PROMISES.md:3: the public call c::two has a `requires`")
+
+    def test_a_part_may_require(self):
+        self.file("crates/c/src/part.rt", "pub fn one() -> u32\n    requires { ⌜ a ⌝ }\n{\n    1\n}\nfn other() {}\n")
+        self.assertEqual(self.run_it()[0], 0)
+
+    def test_a_function_in_neither_table(self):
+        self.documents(parts="")
+        self.wrong("docs/PROMISES.md:14: the pub fn c::part::one is neither a public call nor an unchecked part")
+
+    def test_a_function_in_both_tables(self):
+        self.documents(parts=PARTS.replace("`part::one`", "`part::one`, `two`"))
+        self.wrong("docs/PROMISES.md:7: c::two is listed before")
+
+    def test_a_listed_function_that_is_gone(self):
+        self.documents(parts=PARTS.replace("`part::one`", "`part::one`, `part::other`"))
+        self.wrong("docs/PROMISES.md:7: there is no pub fn c::part::other")
+
+    def test_functions_for_c_in_one_row(self):
+        self.file("crates/c/src/lib.rt", 'pub mod part;\n#[no_mangle]\npub extern "C" fn c_two() -> u32 {\n    2\n}\npub extern "C" fn c_three() {\n}\nfn two() {}\n')
+        self.documents(public=PUBLIC.replace("`two`", "each `c_NAME`"), promise=PROMISE.replace("`two()`", "each `c_NAME`"))
+        self.assertEqual(self.run_it()[0], 0)
+
+    def test_the_order_of_refusals(self):
+        self.documents(public=PUBLIC.replace("3, 4", "1, 4"))
+        self.wrong("docs/PROMISES.md:3: the refusals of c::two are not in document 01's order")
+
+    def test_a_public_call_with_one_edit(self):
+        self.documents(promise=PROMISE.replace("`three`", "`once` †"), after="\nRefused edit: `three`.")
+        self.wrong("docs/PROMISES.md:3: the row of c::two names fewer than two edits")
+
+    def test_a_public_call_without_a_row(self):
+        self.documents(promise="", after="Refused edits: `three`, `once` †.")
+        self.wrong("docs/PROMISES.md:3: the public call c::two has no row with its edits")
+
+    def test_edits_of_the_call_that_is_asked(self):
+        row = "| `part::one` | the same | those of `two` |"
+        self.documents(public=PUBLIC.replace("`two`", "`two`, `part::one`"), parts="", promise=PROMISE + "\n" + row)
+        self.assertEqual(self.run_it()[0], 0)
+        self.documents(public=PUBLIC.replace("`two`", "`two`, `part::one`"), parts="", promise=PROMISE + "\n" + row.replace("`two`", "`too`"))
+        self.wrong("docs/PROMISES.md:3: the row of c::part::one names fewer than two edits")
+
+    def test_a_name_counts_for_the_crate_of_its_row(self):
+        self.second_crate()
+        public = PUBLIC + "\n| `d` | `too` | `twice` | `crates/c/specs/Twice.antt` | none |"
+        row = "\n| `too` | `twice` | `three`, `four` |"
+        self.documents(public=public, section="`c`, `d`", promise=PROMISE + row)
+        self.assertEqual(self.run_it()[0], 0)
+        self.documents(public=public, section="`c`, `d`", promise=PROMISE + row.replace("`three`", "in `c::part`: `three`; `d/four`"))
+        self.wrong("docs/PROMISES.md:16: the edit three of d is named nowhere")
+
+    def test_a_sentence_says_its_crate(self):
+        self.second_crate()
+        parts = PARTS + "\n| `d` | `too` |"
+        self.documents(parts=parts, section="`c`, `d`", after="\nRefused edits of `d`: `three`, `four`.")
+        self.assertEqual(self.run_it()[0], 0)
+        self.documents(parts=parts, section="`c`, `d`", after="\nRefused edits: `d/three`, `d/four`, `once` †.")
+        self.wrong("docs/PROMISES.md:16: it is not said of which crate the edit once is")
 
 
 if __name__ == "__main__":

@@ -1,6 +1,7 @@
 """The command: its messages and its files, with small programs in the place of fitlist that answer what a test needs."""
 import csv
 import os
+import shutil
 import struct
 import subprocess
 import sys
@@ -157,6 +158,51 @@ class Command(unittest.TestCase):
         self.assertEqual(status, 2)
         self.assertIn("w.csv", err)
         self.assertEqual(self.run_it("--job", "none/job")[0], 2)
+
+    def in_a_repository(self, rt):
+        """Runs the command in a repository without target/, with this script for rt; what it printed, and what rt was asked."""
+        shutil.rmtree(os.path.join(self.folder, "bin"), ignore_errors=True)
+        os.makedirs(os.path.join(self.folder, "bin"))
+        shutil.copytree(TOOLS, os.path.join(self.folder, "tools"), ignore=shutil.ignore_patterns("tests", "__pycache__"), dirs_exist_ok=True)
+        if rt is not None:
+            os.chmod(self.file("bin/rt", f"#!/bin/sh\necho \"$*\" >> asked\n{rt}\n"), 0o755)
+        path = os.path.join(self.folder, "bin") + ("" if rt is None else ":/usr/bin:/bin")
+        done = subprocess.run([sys.executable, "tools/wordtimes", "a.wav", "w.csv", "--out", "out"], cwd=self.folder, env={**os.environ, "PATH": path}, stdout=subprocess.PIPE, stderr=subprocess.PIPE, universal_newlines=True, check=False)
+        self.assertNotIn("Traceback", done.stderr)
+        asked = os.path.join(self.folder, "asked")
+        if not os.path.exists(asked):
+            return done.returncode, done.stdout, done.stderr, []
+        with open(asked, encoding="utf-8") as f:
+            return done.returncode, done.stdout, done.stderr, f.read().splitlines()
+
+    def test_a_program_that_is_not_built(self):
+        rt = "echo 'rt: ok'\nmkdir -p target/bin\ncp fitlist target/bin/fitlist"
+        status, out, err, asked = self.in_a_repository(rt)
+        self.assertEqual((status, asked), (0, ["check fitlist"]))
+        self.assertTrue(out.startswith("1 of 1 word, 1 piece: "), out)
+        said, of_rt = err.splitlines()
+        self.assertRegex(said, r"^wordtimes: the program fitlist isn't built: `rt check fitlist` proves and builds it now, once \(about .* on two cores\)$")
+        self.assertEqual(of_rt, "rt: ok")
+        status, _, err, asked = self.in_a_repository("exit 1")
+        self.assertEqual((status, err, asked), (0, "", ["check fitlist"]))
+
+    def test_a_program_that_is_not_proved(self):
+        for rt, said in (("exit 1", "`rt check fitlist` failed: it ended with status 1"), ("exit 0", "`rt check fitlist` left no target/bin/fitlist")):
+            status, out, err, _ = self.in_a_repository(rt)
+            self.assertEqual((status, out), (2, ""))
+            self.assertIn(said, err)
+
+    def test_without_the_toolchain(self):
+        status, out, err, _ = self.in_a_repository(None)
+        self.assertEqual((status, out), (2, ""))
+        self.assertIn("isn't on the path", err)
+        self.assertIn("the Rattle kit", err)
+
+    def test_what_is_not_taken_is_said_before_the_program_is_built(self):
+        self.file("a.wav", wav([0], rate=48000))
+        status, _, err, asked = self.in_a_repository("exit 0")
+        self.assertEqual((status, asked), (2, []))
+        self.assertIn("48,000", err)
 
     def test_wrong_rate(self):
         self.file("a.wav", wav([0], rate=48000))
