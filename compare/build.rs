@@ -19,6 +19,8 @@ const TAKEN: &[(&str, &str)] = &[
     ("transcript::onsets", "transcript/onsets.rs"),
     ("transcript::phrase_align", "transcript/phrase_align.rs"),
     ("transcript::pieces", "transcript/pieces.rs"),
+    // js_math itself, of which src/refused_inputs.rs asks `js_pow`: the others see its stand-in
+    ("voxr_math", "js_math.rs"),
 ];
 
 /// Functions of voxr that are taken without the rest of their file: a stand-in includes each.

@@ -42,6 +42,7 @@ mod program_rule;
 mod programs;
 mod recorded;
 mod recordings;
+mod refused_inputs;
 mod report;
 mod rows;
 mod run_rule;
@@ -91,7 +92,8 @@ usage: compare [CASES [NAME..]]    compare, CASES random cases of each function 
                                    the program 41)
        compare word-vectors        write the stored answers of words, the Rust's
        compare fit-vectors         write those of last runs and of fitted words
-       compare run-vectors         write those of full runs";
+       compare run-vectors         write those of full runs
+       compare refused-inputs      write what the Rust gives where this library refuses";
 
 fn all<T: Compared>(list: &'static [T]) -> impl Iterator<Item = &'static dyn Compared> {
     list.iter().map(|entry| entry as &dyn Compared)
@@ -203,6 +205,10 @@ pub fn compare_all() -> ExitCode {
         }
         (Some("run-vectors"), _, None) => {
             vectors_run::write();
+            ExitCode::SUCCESS
+        }
+        (Some("refused-inputs"), _, None) => {
+            refused_inputs::write();
             ExitCode::SUCCESS
         }
         (Some("fuzz-program"), _, None) => fuzz_program(JOBS),
