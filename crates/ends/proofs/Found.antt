@@ -1,4 +1,4 @@
--- Where the next word starts, and where a sound ends: the value of each, and exactly when there is none. The search for a sound finds one exactly where some
+-- Where the next word starts, and exactly when there is no such word; exactly when a sound has no end. The search for a sound finds one exactly where some
 -- frame of its range is loud: before the first loud frame nothing stops it, and from there on it has a last one. Assumes nothing.
 use Prim.Native.Nat.{ℕ, zero, suc, _+_, _-_, _<_, _≤_}
 use mathlib.Core.Bool.{Bool, true, false, cond, true≢false}

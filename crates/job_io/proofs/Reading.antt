@@ -200,4 +200,4 @@ module _ (t : List ℕ) (long : length t ≡ 24) (bodies buffer : List ℕ) (ls 
 -- ---- and what is printed for it
 pub answers : {came r room : ℕ} {ended : Bool} {t bodies buffer text : List ℕ} {ls : List Float} → Received came ended t bodies buffer ls
     → ((file : List ℕ) → Came came t bodies ls file → text ≡ printed file) × (r ≤ room) → Answers came ended t bodies buffer ls text × (r ≤ room)
-answers h (prints, fits) = (record { received = h; prints = prints (h .file) (h .parts) }, fits)
+answers h (prints, fits) = (record { received = h; prints = prints }, fits)

@@ -24,7 +24,7 @@ abbrev pub EndsIn : ℕ → List ℕ → List ℕ → Type 0
 EndsIn count samples buffer = drop (lastFrom count) samples ≡ take (sampleSize * count - lastFrom count) buffer
 
 -- ---- There is a file of the `came` bytes that came: table, words and spans stand in their places, of the samples the levels and the last stretch.
--- No more bytes came than decide, and fewer only where C's read said that there are no more (`ended`).
+-- No more bytes came than decide, and fewer exactly where `ended` says that there are no more.
 pub record Received (came : ℕ) (ended : Bool) (table bodies buffer : List ℕ) (ls : List Float) : Type 0 where
   pub file : List ℕ
   pub parts : Came came table bodies ls file
@@ -32,7 +32,7 @@ pub record Received (came : ℕ) (ended : Bool) (table bodies buffer : List ℕ)
   pub asked : came ≤ wanted (contents table)
   pub ended-is : ended ≡ ltb came (wanted (contents table))
 
--- ---- And the text is what document 01 prints for that file.
+-- ---- And the text is what document 01 prints for every such file: of so many bytes, with this table, these words and spans, and samples of these levels.
 pub record Answers (came : ℕ) (ended : Bool) (table bodies buffer : List ℕ) (ls : List Float) (text : List ℕ) : Type 0 where
   pub received : Received came ended table bodies buffer ls
-  pub prints : text ≡ printed (received .file)
+  pub prints : (file : List ℕ) → Came came table bodies ls file → text ≡ printed file
