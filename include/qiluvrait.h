@@ -29,8 +29,7 @@
 extern "C" {
 #endif
 
-/* The numbers of a refusal, as document 01 has them. 5 is the program fitlist's alone. 8 is not
- * used: no call answers it. */
+/* The numbers of a refusal, as document 01 has them. 5 is the program fitlist's alone, and no call answers 8. */
 enum qiluvrait_refusal {
     QILUVRAIT_ACCEPTED = 0,
     QILUVRAIT_REFUSED_TIME = 1,    /* a time outside its range */
@@ -40,7 +39,8 @@ enum qiluvrait_refusal {
     QILUVRAIT_REFUSED_COUNTS = 4,  /* too many samples, words or spans, or too large a span count */
     QILUVRAIT_REFUSED_LAYOUT = 5,  /* the job file breaks its layout */
     QILUVRAIT_REFUSED_PLACES = 6,  /* too few places for the result or work space */
-    QILUVRAIT_REFUSED_LEVELS = 7   /* the number of levels isn't samples / 160, rounded down */
+    QILUVRAIT_REFUSED_LEVELS = 7,  /* the number of levels isn't samples / 160, rounded down */
+    QILUVRAIT_REFUSED_CUT = 8      /* in the pieces, a cut not beyond its piece's start */
 };
 
 /* ECMAScript's Math.min: NaN if either is NaN; else the lower one, -0 being below +0. */
@@ -110,8 +110,7 @@ struct qiluvrait_cut {
 
 /*
  * The pieces of a recording of count samples, from its levels and their floor: the first sample and
- * the end of each, in the first places of starts and ends; further places stay. Every piece but the last
- * has 1203 * 160 samples or more, whatever the levels hold, and the next one starts at its end. Needs
+ * the end of each, in the first places of starts and ends; further places stay. Needs
  * (frames - 1) / 1203 + 1 places in each, and none for no frame. Refusals: 4, 7, 6.
  */
 struct qiluvrait_cut qiluvrait_pieces(const double *levels, size_t levels_len, double floor, size_t count,

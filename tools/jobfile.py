@@ -38,6 +38,7 @@ REFUSALS = {
     5: "the job file breaks its layout",
     6: "too few places for the result or work space",
     7: "the number of levels isn't samples / 160, rounded down",
+    8: "in the pieces, a cut not beyond its piece's start",
 }
 
 

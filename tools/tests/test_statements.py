@@ -162,11 +162,6 @@ class Documents(unittest.TestCase):
         self.documents(public=PUBLIC.replace("3, 4", "1, 4"))
         self.wrong("docs/PROMISES.md:3: the refusals of c::two are not in document 01's order")
 
-    def test_a_number_that_is_no_refusal(self):
-        for numbers in ("8", "3, 8", "34"):
-            self.documents(public=PUBLIC.replace("3, 4", numbers))
-            self.wrong("docs/PROMISES.md:3: c::two has a refusal that no call gives")
-
     def test_a_public_call_with_one_edit(self):
         self.documents(promise=PROMISE.replace("`three`", "`once` †"), after="\nRefused edit: `three`.")
         self.wrong("docs/PROMISES.md:3: the row of c::two names fewer than two edits")

@@ -116,8 +116,7 @@ class Command(unittest.TestCase):
             (2, ["w.csv line 3 ('no'): units 0 isn't from 1 to 10,000"]),
             (4, ["s.csv line 2: count 5,000 is above 4,096"]),
             (5, ["the job file breaks its layout"]),
-            (8, ["a number that no refusal has"]),
-            (99, ["a number that no refusal has"]),
+            (99, ["a number that document 01 has not"]),
         ):
             self.fitlist(f"refused {number}\n")
             status, _, err = self.run_it("--spans", "s.csv")

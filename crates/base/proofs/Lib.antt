@@ -4,7 +4,6 @@ pub mod Lists
 pub mod Parts
 pub mod Cleared
 pub mod First
-pub mod Numbers
 pub mod Compare
 pub mod Bits
 pub mod Units

@@ -2,7 +2,7 @@
 use Rattle.std.specs.Prelude.{ℕ, ◌≡◌, Bool, true, false, cond, ◌↔◌, ◌⊎◌, List, [], ◌∷◌, ◌++◌, Float}
 use Rattle.std.proofs.Math.Option.{Option, none, some}
 use Rattle.base.specs.declared.Refusal.{Refusal}
-use Rattle.base.specs.declared.Refusal.TheVariants.{Time, Letters, Lengths, Counts, Layout, Places, Levels}
+use Rattle.base.specs.declared.Refusal.TheVariants.{Time, Letters, Lengths, Counts, Layout, Places, Levels, Cut}
 use Rattle.base.specs.declared.Rule.{Rule}
 use Rattle.base.specs.declared.Rule.TheVariants.{Fine, Breaks}
 use Rattle.base.specs.declared.NextStart.{NextStart}
@@ -10,8 +10,7 @@ use Rattle.base.specs.declared.NextStart.TheVariants.{Starts, NoNext}
 use Rattle.base.specs.declared.SoundEnd.{SoundEnd}
 use Rattle.base.specs.declared.SoundEnd.TheVariants.{Ends, NoSound}
 
--- ---- "Refused for the input" and "Refused for the state of what is lent": document 01's number of each refusal, but for 8. Document 02: "take
--- refusal 8 out; its number is not used again".
+-- ---- "Refused for the input" and "Refused for the state of what is lent": document 01's number of each refusal.
 abbrev pub number : Refusal → ℕ
 number Time = 1
 number Letters = 2
@@ -20,6 +19,7 @@ number Counts = 4
 number Layout = 5
 number Places = 6
 number Levels = 7
+number Cut = 8
 
 -- ---- A test behind a refusal: whether the refusal applies.
 pub record Test : Type 0 where
@@ -29,7 +29,7 @@ pub record Test : Type 0 where
 abbrev pub test : Bool → Refusal → Test
 test b r = record { applies = b; refusal = r }
 
--- ---- "Order: 3, 4, 1, 2, 7, 6, ..": the first refusal that applies, of tests in their order.
+-- ---- "Order: 3, 4, 1, 2, 7, 6, 8": the first refusal that applies, of tests in their order.
 unfoldable pub first : List Test → Rule
 first [] = Fine
 first (t ∷ ts) = cond t.applies (Breaks t.refusal) (first ts)
@@ -70,11 +70,6 @@ Among n (m ∷ ms) = (n ≡ m) ⊎ Among n ms
 abbrev pub Listed : List ℕ → List Test → Type 0
 Listed numbers [] = Unit {0}
 Listed numbers (t ∷ ts) = ((t.applies ≡ false) ⊎ Among (number t.refusal) numbers) × Listed numbers ts
-
--- ---- No test of the list is for the refusal with this number.
-abbrev pub Without : ℕ → List Test → Type 0
-Without n [] = Unit {0}
-Without n (t ∷ ts) = (number t.refusal ≡ n → ⊥) × Without n ts
 
 -- ---- The promise of a call that has these tests, in their order: it accepts, with these values, exactly when all is within the limits;
 -- it refuses with n exactly when n is the first of the numbers that apply; and it has no refusals but those listed.

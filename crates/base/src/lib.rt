@@ -21,6 +21,8 @@ pub enum Refusal {
     Places,
     // the number of levels isn't samples / 160, rounded down
     Levels,
+    // in the pieces, a cut not beyond its piece's start
+    Cut,
 }
 
 // What the checks of a call find: nothing, or the first refusal that applies.
@@ -63,6 +65,7 @@ pub fn number(r: Refusal) -> u32
         Refusal::Layout => 5,
         Refusal::Places => 6,
         Refusal::Levels => 7,
+        Refusal::Cut => 8,
     }
 }
 

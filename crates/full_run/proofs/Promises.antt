@@ -1,17 +1,16 @@
 -- The full run in plain words: accepted exactly when words, spans and samples are within the limits and the places suffice, refused exactly with the first refusal
--- that applies; a refusal changes nothing, and refusal 7 cannot arise. Every cut that an accepted run leaves lies 1,203 frames or more beyond its piece's start. By reading what
--- the tests find. Assumes nothing.
+-- that applies; a refusal changes nothing, and refusals 7 and 8 cannot arise. By reading what the tests find. Assumes nothing.
 use Prim.Native.Nat.{ℕ, ◌≤◌, min}
 use mathlib.Core.Bool.{false}
 use mathlib.Core.List.{List, [], ◌∷◌}
 use mathlib.Core.Logic.{◌↔◌, inl, inr}
-use mathlib.Core.Path.{◌≡◌, refl, sym, ap, ◌∙◌}
+use mathlib.Core.Path.{◌≡◌, refl, sym, ap}
 use native.Mathlib.Omega.{arith}
 use borrow.Author.Tests.{eq-eqb}
 use lib.ListN.{length}
 use lib.Ieee.{Float}
 use Rattle.base.specs.Words.{count}
-use Rattle.base.specs.Refusals.{None, First, Says, accepts, refuses, Among, Judged, says_of, Listed}
+use Rattle.base.specs.Refusals.{None, First, accepts, refuses, Among, Judged, says_of, Listed}
 use Rattle.base.specs.declared.Rule.{Rule}
 use Rattle.base.specs.declared.Rule.TheVariants.{Fine, Breaks}
 use Rattle.base.proofs.First.{apart, fine-none, none-fine, judged}
@@ -23,11 +22,19 @@ use Rattle.word_calls.specs.Calls.{of_words, of_samples, of_spans, of_places}
 use Rattle.word_calls.proofs.Within.{words-exactly, samples-exactly, spans-exactly, places-exactly}
 use Rattle.envelope.specs.Envelope.{frames, levels, floor, quiet_row}
 use Rattle.envelope.proofs.Places.{length-levels}
-use Rattle.pieces.specs.Pieces.{need, CutsApart}
-use Rattle.pieces.proofs.Walk.{pieces-over-apart}
-use Rattle.run_stages.specs.Stages.{run_on}
+use Rattle.pieces.specs.Pieces.{need, walked}
+use Rattle.pieces.proofs.Walk.{never_stuck}
 use Rattle.full_run.specs.FullRun.{Input, run_of, run_applies, RunWithin, says, output, report_of, accepted, by_rule, full_run}
 use Rattle.full_run.specs.declared.Report.{Report}
+
+-- a number that is none of 3, 4, 1, 2, 6
+unlisted : (n : ℕ) → (n ≡ 3 → ⊥) → (n ≡ 4 → ⊥) → (n ≡ 1 → ⊥) → (n ≡ 2 → ⊥) → (n ≡ 6 → ⊥) → Among n (3 ∷ 4 ∷ 1 ∷ 2 ∷ 6 ∷ []) → ⊥
+unlisted n a b c d f (inl e) = a e
+unlisted n a b c d f (inr (inl e)) = b e
+unlisted n a b c d f (inr (inr (inl e))) = c e
+unlisted n a b c d f (inr (inr (inr (inl e)))) = d e
+unlisted n a b c d f (inr (inr (inr (inr (inl e))))) = f e
+unlisted n a b c d f (inr (inr (inr (inr (inr e))))) = e
 
 module _ (i : Input) where
   -- ---- no test applies exactly when all is within the limits
@@ -82,7 +89,7 @@ module _ (i : Input) where
 
   listed : Listed (3 ∷ 4 ∷ 1 ∷ 2 ∷ 6 ∷ []) (in_order (run_applies i))
   unfolding in_order run_applies of_places of_spans of_samples of_words also when
-  listed = (inr (inl refl), (inr (inr (inl refl)), (inr (inr (inr (inl refl))), (inr (inr (inr (inr (inl refl)))), (inl refl, (inr (inr (inr (inr (inr (inl refl))))), tt))))))
+  listed = (inr (inl refl), (inr (inr (inl refl)), (inr (inr (inr (inl refl))), (inr (inr (inr (inr (inl refl)))), (inl refl, (inr (inr (inr (inr (inr (inl refl))))), (inl refl, tt)))))))
 
   pub fine : RunWithin i → chain (run_applies i) ≡ Fine
   unfolding chain
@@ -119,26 +126,16 @@ module _ (i : Input) where
     go Fine h = apart h
     go (Breaks why) h = refl
 
-  -- ---- Every cut of a run that is accepted lies at least 1,203 frames beyond its piece's start, whatever the samples hold.
-  pub pieces-apart : (r : Report) → says (full_run i).answer ≡ accepts r → CutsApart r.pieces (full_run i).piece_starts (full_run i).piece_ends
-  unfolding run_of run_on
-  pieces-apart r h =
-      let w = within (said-fine r h) in
-      let same : ◌≡◌ {A = Says Report} (accepts r) (accepts (report_of (floor (levels i.samples)) (run_of i))) = sym h ∙ accepted-exactly.0 w in
-      let is : r ≡ report_of (floor (levels i.samples)) (run_of i) = cc in
-      rw (is, accepted-leaves w) (pieces-over-apart (quiet_row (floor (levels i.samples)) (levels i.samples)) (length i.samples) i.piece_starts i.piece_ends)
-
-  -- ---- 7 cannot arise: it is not among the numbers listed.
+  -- ---- 7 and 8 cannot arise: they are not among the numbers listed.
   pub never-7 : says (full_run i).answer ≡ refuses 7 → ⊥
-  never-7 h = go (answers.refused-among 7 h) where
-    go : Among 7 (3 ∷ 4 ∷ 1 ∷ 2 ∷ 6 ∷ []) → ⊥
-    go (inl e) = omega (arith, e)
-    go (inr (inl e)) = omega (arith, e)
-    go (inr (inr (inl e))) = omega (arith, e)
-    go (inr (inr (inr (inl e)))) = omega (arith, e)
-    go (inr (inr (inr (inr (inl e))))) = omega (arith, e)
-    go (inr (inr (inr (inr (inr e))))) = e
+  never-7 h = unlisted 7 (λ e. omega (arith, e)) (λ e. omega (arith, e)) (λ e. omega (arith, e)) (λ e. omega (arith, e)) (λ e. omega (arith, e)) (answers.refused-among 7 h)
 
--- ---- And it need not be tested: the run makes its own levels, as many as samples / 160.
+  pub never-8 : says (full_run i).answer ≡ refuses 8 → ⊥
+  never-8 h = unlisted 8 (λ e. omega (arith, e)) (λ e. omega (arith, e)) (λ e. omega (arith, e)) (λ e. omega (arith, e)) (λ e. omega (arith, e)) (answers.refused-among 8 h)
+
+-- ---- And need not be tested: the run makes its own levels, as many as samples / 160, and no cut of its pieces is stuck.
 pub own-levels : (xs : List Float) → other_levels (length (levels xs)) (length xs) ≡ false
 own-levels xs = rw (eq-eqb (length (levels xs)) (frames xs) (length-levels xs))
+
+pub own-cuts : (floor : Float) (ls : List Float) (samples : ℕ) → (walked (quiet_row floor ls) samples).stuck ≡ false
+own-cuts floor ls samples = never_stuck (quiet_row floor ls) samples

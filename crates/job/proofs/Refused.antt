@@ -78,9 +78,13 @@ module _ (file : List ℕ) where
   unfolding run_applies also when of_words of_spans of_samples of_places
   no-levels = refl
 
+  no_cut : (run_applies given).cut ≡ false
+  unfolding run_applies also when of_words of_spans of_samples of_places
+  no_cut = refl
+
   listed : LaidOut file → Listed (4 ∷ 1 ∷ 2 ∷ []) (in_order (run_applies given))
   unfolding in_order
-  listed l = (inl even, (inr (inl refl), (inr (inr (inl refl)), (inr (inr (inr (inl refl))), (inl no-levels, (inl (enough l), tt))))))
+  listed l = (inl even, (inr (inl refl), (inr (inr (inl refl)), (inr (inr (inr (inl refl))), (inl no-levels, (inl (enough l), (inl no_cut, tt)))))))
 
   -- ---- A file that is laid out and refused: the line has the refusal's number, and that is 4, 1 or 2.
   pub refused-laid-out : LaidOut file → (n : ℕ) → says (job_run file).answer ≡ refuses n → (printed file ≡ refused_line n) × Among n (4 ∷ 1 ∷ 2 ∷ [])

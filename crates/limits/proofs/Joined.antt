@@ -6,7 +6,7 @@ use mathlib.Core.Logic.{◌↔◌}
 use lib.Dec.{eqb}
 use Rattle.base.specs.Refusals.{number, None}
 use Rattle.base.specs.declared.Refusal.{Refusal}
-use Rattle.base.specs.declared.Refusal.TheVariants.{Time, Letters, Lengths, Counts, Layout, Places, Levels}
+use Rattle.base.specs.declared.Refusal.TheVariants.{Time, Letters, Lengths, Counts, Layout, Places, Levels, Cut}
 use Rattle.base.specs.declared.Rule.{Rule}
 use Rattle.limits.specs.Order.{when, also, in_order, chain}
 use Rattle.limits.specs.declared.Applies.{Applies}
@@ -30,7 +30,7 @@ join a b m n = (
       both-not m.1.1.0 n.1.1.0,
       (
         both-not m.1.1.1.0 n.1.1.1.0,
-        (both-not m.1.1.1.1.0 n.1.1.1.1.0, (both-not m.1.1.1.1.1.0 n.1.1.1.1.1.0, tt)),
+        (both-not m.1.1.1.1.0 n.1.1.1.1.0, (both-not m.1.1.1.1.1.0 n.1.1.1.1.1.0, (both-not m.1.1.1.1.1.1.0 n.1.1.1.1.1.1.0, tt))),
       ),
     ),
   ),
@@ -45,7 +45,8 @@ part a b n =
     let n₂ = neither _ _ n.1.1.1.0 in
     let n₇ = neither _ _ n.1.1.1.1.0 in
     let n₆ = neither _ _ n.1.1.1.1.1.0 in
-    ((n₃.0, (n₄.0, (n₁.0, (n₂.0, (n₇.0, (n₆.0, tt)))))), (n₃.1, (n₄.1, (n₁.1, (n₂.1, (n₇.1, (n₆.1, tt)))))))
+    let n₈ = neither _ _ n.1.1.1.1.1.1.0 in
+    ((n₃.0, (n₄.0, (n₁.0, (n₂.0, (n₇.0, (n₆.0, (n₈.0, tt))))))), (n₃.1, (n₄.1, (n₁.1, (n₂.1, (n₇.1, (n₆.1, (n₈.1, tt))))))))
 
 pub also-exactly : {P Q : Type 0} (a b : Applies) → P ↔ None (in_order a) → Q ↔ None (in_order b) → (P × Q) ↔ None (in_order (also a b))
 also-exactly a b p q = (λ h. join a b (p.0 h.0) (q.0 h.1), λ n. let m = part a b n in (p.1 m.0, q.1 m.1))
@@ -57,7 +58,7 @@ silent false = refl
 
 when-none : (why : Refusal) → None (in_order (when false why))
 unfolding in_order when
-when-none why = let is : (n : ℕ) → (eqb (number why) n && false) ≡ false = λ n. silent (eqb (number why) n) in (is 3, (is 4, (is 1, (is 2, (is 7, (is 6, tt))))))
+when-none why = let is : (n : ℕ) → (eqb (number why) n && false) ≡ false = λ n. silent (eqb (number why) n) in (is 3, (is 4, (is 1, (is 2, (is 7, (is 6, (is 8, tt)))))))
 
 none-when : (b : Bool) (why : Refusal) → (number why ≡ 5 → ⊥) → None (in_order (when b why)) → b ≡ false
 unfolding in_order when
@@ -67,6 +68,7 @@ none-when b Time l n = n.1.1.0
 none-when b Letters l n = n.1.1.1.0
 none-when b Levels l n = n.1.1.1.1.0
 none-when b Places l n = n.1.1.1.1.1.0
+none-when b Cut l n = n.1.1.1.1.1.1.0
 none-when b Layout l n = absurd (l refl)
 
 pub when-exactly : {P : Type 0} {b : Bool} (why : Refusal) → (number why ≡ 5 → ⊥) → P ↔ (b ≡ false) → P ↔ None (in_order (when b why))

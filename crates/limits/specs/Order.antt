@@ -1,9 +1,8 @@
--- Document 01: "Order: 3, 4, 1, 2, 7, 6, ..", and then 8, which is not used (document 02); which refusals apply, joined from what is tested; and
--- what an answer says. Assumes nothing.
+-- Document 01: "Order: 3, 4, 1, 2, 7, 6, 8"; which refusals apply, joined from what is tested; and what an answer says. Assumes nothing.
 use Rattle.std.specs.Prelude.{ℕ, Bool, ◌&&◌, ◌||◌, List, [], ◌∷◌, eqb}
 use Rattle.base.specs.Refusals.{Test, test, first, number, Says, accepts, refuses}
 use Rattle.base.specs.declared.Refusal.{Refusal}
-use Rattle.base.specs.declared.Refusal.TheVariants.{Time, Letters, Lengths, Counts, Places, Levels}
+use Rattle.base.specs.declared.Refusal.TheVariants.{Time, Letters, Lengths, Counts, Places, Levels, Cut}
 use Rattle.base.specs.declared.Rule.{Rule}
 use Rattle.limits.specs.declared.Applies.{Applies}
 use Rattle.limits.specs.declared.Answer.{Answer}
@@ -13,7 +12,7 @@ use Rattle.limits.specs.declared.Answer.TheVariants.{Accepted, Refused}
 unfoldable pub when : Bool → Refusal → Applies
 when b why =
     let is : ℕ → Bool = λ n. eqb (number why) n && b in
-    record { lengths = is 3; counts = is 4; times = is 1; letters = is 2; levels = is 7; places = is 6 }
+    record { lengths = is 3; counts = is 4; times = is 1; letters = is 2; levels = is 7; places = is 6; cut = is 8 }
 
 -- ---- What applies of one or of the other.
 unfoldable pub also : Applies → Applies → Applies
@@ -24,6 +23,7 @@ also a b = record {
   letters = a.letters || b.letters;
   levels = a.levels || b.levels;
   places = a.places || b.places;
+  cut = a.cut || b.cut;
 }
 
 -- ---- The tests of a call, in their order.
@@ -35,6 +35,7 @@ in_order a =
     ∷ test a.letters Letters
     ∷ test a.levels Levels
     ∷ test a.places Places
+    ∷ test a.cut Cut
     ∷ []
 
 -- ---- The first refusal that applies.

@@ -8,7 +8,7 @@ use base::{Refusal, Rule};
 pub mod sizes;
 pub mod times;
 
-// Which refusals apply, whatever comes first: 3, 4, 1, 2, 7, 6.
+// Which refusals apply, whatever comes first: 3, 4, 1, 2, 7, 6, 8.
 #[derive(Drop)]
 pub struct Applies {
     pub lengths: bool,
@@ -17,6 +17,7 @@ pub struct Applies {
     pub letters: bool,
     pub levels: bool,
     pub places: bool,
+    pub cut: bool,
 }
 
 // What a call answers that moves the times of words: that it did, or why it refuses.
@@ -38,6 +39,7 @@ pub fn when(applies: bool, why: Refusal) -> Applies
         letters: (n == 2) & applies,
         levels: (n == 7) & applies,
         places: (n == 6) & applies,
+        cut: (n == 8) & applies,
     }
 }
 
@@ -52,6 +54,7 @@ pub fn also(a: Applies, b: Applies) -> Applies
         letters: a.letters | b.letters,
         levels: a.levels | b.levels,
         places: a.places | b.places,
+        cut: a.cut | b.cut,
     }
 }
 
@@ -76,6 +79,9 @@ pub fn chain(a: Applies) -> Rule
     }
     if a.places {
         return Rule::Breaks(Refusal::Places);
+    }
+    if a.cut {
+        return Rule::Breaks(Refusal::Cut);
     }
     Rule::Fine
 }

@@ -34,7 +34,7 @@ module _ (ws : Words) where
 
   listed : Listed (3 ∷ 4 ∷ 1 ∷ 2 ∷ []) (in_order (of_words ws))
   unfolding in_order also when of_words
-  listed = (inr (inl refl), (inr (inr (inl refl)), (inr (inr (inr (inl refl))), (inr (inr (inr (inr (inl refl)))), (inl refl, (inl refl, tt))))))
+  listed = (inr (inl refl), (inr (inr (inl refl)), (inr (inr (inr (inl refl))), (inr (inr (inr (inr (inl refl)))), (inl refl, (inl refl, (inl refl, tt)))))))
 
   -- ---- Accepted, with the count of the words left and whether a loop was found, exactly when the words are within the limits; refused with n exactly when n is the first that
   -- applies, of 3, 4, 1, 2.

@@ -1,11 +1,11 @@
--- The checks in their order, and the call by what they find. Assumes nothing.
-use Prim.Native.Nat.{ℕ, ◌/◌, ◌<◌}
-use mathlib.Core.Bool.{Bool, true, false, ◌||◌, true≢false}
+-- The checks in their order, and the call by what they find. A cut is always beyond its piece's start, so that the test of refusal 8 never applies.
+-- Assumes nothing.
+use Prim.Native.Nat.{ℕ, ◌/◌}
+use mathlib.Core.Bool.{Bool, true, false, ◌||◌}
 use mathlib.Core.List.{List}
-use mathlib.Core.Logic.{◌↔◌, ◌⊎◌, inl, inr}
-use mathlib.Core.Path.{◌≡◌, refl, sym}
+use mathlib.Core.Path.{◌≡◌, refl}
 use native.Mathlib.Omega.{arith}
-use borrow.Author.Tests.{ltb-true, ltb-false, lt-ltb, le-ltb, eqb-true, eq-eqb, not-false}
+use borrow.Author.Tests.{ltb-false, le-ltb, eqb-true, eq-eqb, not-false}
 use lib.Dec.{eqb, ltb}
 use lib.ListN.{length}
 use lib.Ieee.{Float}
@@ -20,7 +20,7 @@ use Rattle.envelope.specs.Envelope.{quiet_row}
 use Rattle.pieces.specs.declared.Answer.TheVariants.{Accepted, Refused}
 use Rattle.pieces.specs.Pieces.{pieces, piece_count, need, tests, Output, output, accepted, pieces_call, Ready}
 use Rattle.pieces.specs.Parts.{starts_over, ends_over}
-use Rattle.pieces.proofs.Walk.{piece_count-is}
+use Rattle.pieces.proofs.Walk.{never_stuck, piece_count-is}
 
 or-first : (a b : Bool) → (a || b) ≡ false → a ≡ false
 or-first true b e = e
@@ -30,64 +30,50 @@ or-second : (a b : Bool) → (a || b) ≡ false → b ≡ false
 or-second true b e = absurd (let z : ◌≡◌ {A = ℕ} 0 1 = cc in omega arith)
 or-second false b e = e
 
--- one of two lists is short of places
-pub short-exactly : (starts ends n : ℕ) → ((starts < n) ⊎ (ends < n)) ↔ ((few_places starts n || few_places ends n) ≡ true)
-short-exactly starts ends n = (there, back (ltb starts n) (ltb ends n) refl refl)
-  where
-    or-true : (b : Bool) → (b || true) ≡ true
-    or-true true = refl
-    or-true false = refl
-
-    there : (starts < n) ⊎ (ends < n) → (ltb starts n || ltb ends n) ≡ true
-    there (inl h) = rw (lt-ltb starts n h)
-    there (inr h) = rw (lt-ltb ends n h) (or-true (ltb starts n))
-
-    back : (a b : Bool) → ltb starts n ≡ a → ltb ends n ≡ b → (a || b) ≡ true → (starts < n) ⊎ (ends < n)
-    back true b p q e = inl (ltb-true starts n p)
-    back false true p q e = inr (ltb-true ends n q)
-    back false false p q e = absurd (true≢false (sym e))
-
 -- ---- What judge finds, by the results of its tests.
-module _ (frames count starts ends : ℕ) where
+module _ (levels : List Float) (floor : Float) (count starts ends : ℕ) where
   module _ {many : Bool} (samples : many ≡ many_samples count) where
-    pub samples-break : many ≡ true → Breaks Counts ≡ first (tests frames count starts ends)
+    pub samples-break : many ≡ true → Breaks Counts ≡ first (tests levels floor count starts ends)
     unfolding first tests
     samples-break e = rw (← samples, e)
 
-    module _ {other : Bool} (few : many ≡ false) (others : other ≡ other_levels frames count) where
-      pub levels-break : other ≡ true → Breaks Levels ≡ first (tests frames count starts ends)
+    module _ {other : Bool} (few : many ≡ false) (frames : other ≡ other_levels (length levels) count) where
+      pub levels-break : other ≡ true → Breaks Levels ≡ first (tests levels floor count starts ends)
       unfolding first tests
-      levels-break e = rw (← samples, few, ← others, e)
+      levels-break e = rw (← samples, few, ← frames, e)
 
-      module _ {short : Bool} (all : other ≡ false) (places : short ≡ (few_places starts (need frames) || few_places ends (need frames))) where
-        pub places-break : short ≡ true → Breaks Places ≡ first (tests frames count starts ends)
+      module _ {short : Bool} (all : other ≡ false) (places : short ≡ (few_places starts (need (length levels)) || few_places ends (need (length levels)))) where
+        pub places-break : short ≡ true → Breaks Places ≡ first (tests levels floor count starts ends)
         unfolding first tests
-        places-break e = rw (← samples, few, ← others, all, ← places, e)
+        places-break e = rw (← samples, few, ← frames, all, ← places, e)
 
-        pub none-break : short ≡ false → Fine ≡ first (tests frames count starts ends)
+        pub none-break : short ≡ false → Fine ≡ first (tests levels floor count starts ends)
         unfolding first tests
-        none-break e = rw (← samples, few, ← others, all, ← places, e)
+        none-break e = rw (← samples, few, ← frames, all, ← places, e, never_stuck (quiet_row floor levels) count)
 
   -- ---- No refusal applies exactly when all is ready.
-  pub fine-ready : first (tests frames count starts ends) ≡ Fine → Ready frames count starts ends
+  pub fine-ready : first (tests levels floor count starts ends) ≡ Fine → Ready (length levels) count starts ends
   unfolding tests
-  fine-ready e = ready (fine-none (tests frames count starts ends) e) where
-    ready : None (tests frames count starts ends) → Ready frames count starts ends
+  fine-ready e = ready (fine-none (tests levels floor count starts ends) e) where
+    ready : None (tests levels floor count starts ends) → Ready (length levels) count starts ends
     ready n = record {
       few = ltb-false 57600000 count n.0;
-      all = eqb-true frames (count / 160) (not-false (eqb frames (count / 160)) n.1.0);
-      from = ltb-false starts (need frames) (or-first (ltb starts (need frames)) (ltb ends (need frames)) n.1.1.0);
-      to = ltb-false ends (need frames) (or-second (ltb starts (need frames)) (ltb ends (need frames)) n.1.1.0);
+      all = eqb-true (length levels) (count / 160) (not-false (eqb (length levels) (count / 160)) n.1.0);
+      from = ltb-false starts (need (length levels)) (or-first (ltb starts (need (length levels))) (ltb ends (need (length levels))) n.1.1.0);
+      to = ltb-false ends (need (length levels)) (or-second (ltb starts (need (length levels))) (ltb ends (need (length levels))) n.1.1.0);
     }
 
-  pub ready-fine : Ready frames count starts ends → first (tests frames count starts ends) ≡ Fine
+  pub ready-fine : Ready (length levels) count starts ends → first (tests levels floor count starts ends) ≡ Fine
   unfolding tests
   ready-fine r =
-      none-fine (tests frames count starts ends) (
+      none-fine (tests levels floor count starts ends) (
         le-ltb 57600000 count r.few,
         (
-          rw (eq-eqb frames (count / 160) r.all),
-          (rw (le-ltb starts (need frames) r.from, le-ltb ends (need frames) r.to), tt),
+          rw (eq-eqb (length levels) (count / 160) r.all),
+          (
+            rw (le-ltb starts (need (length levels)) r.from, le-ltb ends (need (length levels)) r.to),
+            (never_stuck (quiet_row floor levels) count, tt),
+          ),
         ),
       )
 
@@ -98,12 +84,12 @@ module _ (levels : List Float) (floor : Float) (count : ℕ) (s e : List ℕ) wh
   unfolding starts_over ends_over
   accept-made p q r = rw (p, q, r, ← piece_count-is (quiet_row floor levels) count)
 
-  pub refused-made : {rule : Rule} (why : Refusal) → rule ≡ first (tests (length levels) count (length s) (length e)) → rule ≡ Breaks why
+  pub refused-made : {rule : Rule} (why : Refusal) → rule ≡ first (tests levels floor count (length s) (length e)) → rule ≡ Breaks why
       → output (Refused why) s e ≡ pieces_call levels floor count s e
   unfolding pieces_call
   refused-made why p q = rw (← p, q)
 
-  pub call-made : {rule : Rule} {o : Output} → rule ≡ first (tests (length levels) count (length s) (length e)) → rule ≡ Fine
+  pub call-made : {rule : Rule} {o : Output} → rule ≡ first (tests levels floor count (length s) (length e)) → rule ≡ Fine
       → o ≡ accepted (pieces (quiet_row floor levels) count) s e → o ≡ pieces_call levels floor count s e
   unfolding pieces_call
   call-made p q r = rw (← p, q) r

@@ -1,21 +1,25 @@
--- The walk over the pieces. There are no more turns than frames; the pieces need no more places than `need` says; each but the last is 1,203 frames
--- long or longer, and the next starts at its end; and their number does not depend on the sample count. By one idea: the walk adds, to the pieces
--- so far, those that are left from where it stands. Assumes nothing.
+-- The walk over the pieces. No cut is stuck, so refusal 8 never arises; there are no more turns than frames; the pieces need no more places than
+-- `need` says; and their number does not depend on the sample count. By one idea: the walk adds, to the pieces so far, those that are left from
+-- where it stands. Assumes nothing.
 use Prim.Native.Nat.{ℕ, zero, suc, ◌+◌, ◌-◌, ◌*◌, ◌<◌, ◌≤◌}
-use mathlib.Core.Bool.{Bool, true, false, cond}
-use mathlib.Core.List.{List, [], ◌∷◌, ◌++◌, map, append-nil, append_assoc}
+use mathlib.Core.Bool.{Bool, true, false, cond, ◌||◌}
+use mathlib.Core.List.{List, [], ◌∷◌, ◌++◌, append-nil, append_assoc}
 use mathlib.Core.Path.{◌≡◌, refl, sym, ap, ◌∙◌}
 use native.Mathlib.Omega.{arith}
 use native.Mathlib.Nat.{sub-zero}
 use borrow.Author.Tests.{ltb-true, ltb-false, leb-true, leb-false, lt-ltb, le-ltb, le-leb, lt-leb, ne_eqb}
 use lib.Dec.{leb, ltb}
 use lib.IntN.{ℤ, pos, suc_ℤ}
-use lib.ListN.{length, get_or}
+use lib.ListN.{length}
 use Rattle.base.specs.Loop.{Turn, on, out, run}
 use Rattle.base.proofs.Loops.{run_out}
 use Rattle.envelope.specs.Envelope.{hop}
-use Rattle.pieces.specs.Pieces.{max_frames, cut, Piece, State, push, last, piece_turn, walked, pieces, piece_count, need, over, least_cut, CutsApart}
+use Rattle.pieces.specs.Pieces.{max_frames, cut, Piece, State, push, last, piece_turn, walked, pieces, piece_count, need}
 use Rattle.pieces.proofs.Cuts.{cut-beyond}
+
+or_no : (b : Bool) {c : Bool} → c ≡ false → (b || c) ≡ b
+or_no true e = refl
+or_no false e = e
 
 -- a piece needs a place, and 1,203 frames more need one more
 need-one : (frames : ℕ) → 0 < frames → 1 ≤ need frames
@@ -26,20 +30,6 @@ need-more : (n less frames : ℕ) → n ≤ need less → less + 1203 ≤ frames
 unfolding need
 need-more n zero frames h l some = rw (ne_eqb frames 0 (omega arith)) (omega arith)
 need-more n (suc less) frames h l some = let k = rw (ne_eqb (suc less) 0 (omega arith)) at h in rw (ne_eqb frames 0 (omega arith)) (omega arith)
-
--- one piece, or none, has no cut; pieces stay apart with one more before them that is long enough and ends where they start
-apart_none : (n : ℕ) (s e : List ℕ) → n ≤ 1 → CutsApart n s e
-apart_none n s e h = record { beyond = λ i l. absurd (omega (arith, h, l)); next = λ i l. absurd (omega (arith, h, l)) }
-
-apart_more : (n start end : ℕ) (s e : List ℕ) → start + least_cut * hop ≤ end → (1 ≤ n → get_or s 0 0 ≡ end) → CutsApart n s e → CutsApart (suc n) (start ∷ s) (end ∷ e)
-apart_more n start end s e long joined a = record { beyond = beyond; next = next } where
-  beyond : (i : ℕ) → i + 1 < suc n → get_or (start ∷ s) i 0 + least_cut * hop ≤ get_or (end ∷ e) i 0
-  beyond zero h = long
-  beyond (suc i) h = a.beyond i (omega (arith, h))
-
-  next : (i : ℕ) → i + 1 < suc n → get_or (start ∷ s) (i + 1) 0 ≡ get_or (end ∷ e) i 0
-  next zero h = joined (omega (arith, h))
-  next (suc i) h = let z : suc i + 1 ≡ suc (i + 1) = omega arith in rw z (a.next i (omega (arith, h)))
 
 -- ---- Where a walk stands: past all frames, with 2,000 or fewer left, or with more.
 data Place (frames from : ℕ) : Type 0 where
@@ -113,6 +103,17 @@ module _ (row : List Bool) where
           rw (turn-far s h, rest-far n s.from h)
           (later (push s (inner s.from) (cut row s.from)) ∙ append_assoc s.pieces (inner s.from ∷ []) (rest n (cut row s.from)))
 
+    walk-free : (n : ℕ) (k : ℤ) (s : State) → (walk n k (on s)).stuck ≡ s.stuck
+    unfolding run
+    walk-free zero k s = refl
+    walk-free (suc n) k s = go (place (length row) s.from) (walk-free n (suc_ℤ k)) where
+      go : Place (length row) s.from → ((t : State) → (walk n (suc_ℤ k) (on t)).stuck ≡ t.stuck) → (walk n (suc_ℤ k) (piece_turn row count s)).stuck ≡ s.stuck
+      go (past h) later = rw (turn-past s h) (ap (λ (t : State). t.stuck) (walk-out n (suc_ℤ k) s))
+      go (near h l) later = rw (turn_near s h l) (ap (λ (t : State). t.stuck) (walk-out n (suc_ℤ k) (last count s)))
+      go (far h) later =
+          let b = cut-beyond row s.from in
+          rw (turn-far s h) (later (push s (inner s.from) (cut row s.from)) ∙ or_no s.stuck (lt-leb (cut row s.from) s.from (omega arith)))
+
     walk-past : (n : ℕ) (k : ℤ) (s : State) → length row ≤ s.from → walk n k (on s) ≡ s
     unfolding run
     walk-past zero k s h = refl
@@ -134,7 +135,7 @@ module _ (row : List Bool) where
           rw (turn-far s h) (later (push s (inner s.from) (cut row s.from)) (omega arith) (omega arith))
 
     abbrev at : ℕ → State
-    at from = record { pieces = []; from = from }
+    at from = record { pieces = []; from = from; stuck = false }
 
     rest-fuel : (n m from : ℕ) → length row ≤ from + n → length row ≤ from + m → rest n from ≡ rest m from
     rest-fuel n m from p q =
@@ -151,31 +152,6 @@ module _ (row : List Bool) where
       go (far h) later =
           let b = cut-beyond row from in
           rw (rest-far n from h) (need-more (length (rest n (cut row from))) (length row - cut row from) (length row - from) later (omega arith) (omega arith))
-
-    -- the first of them starts there
-    rest-starts : (n from : ℕ) (s : List ℕ) → 1 ≤ length (rest n from) → get_or (map (λ (p : Piece). p.start) (rest n from) ++ s) 0 0 ≡ from * hop
-    unfolding rest
-    rest-starts zero from s some = absurd (omega (arith, some))
-    rest-starts (suc n) from s some = go (place (length row) from) where
-      go : Place (length row) from → get_or (map (λ (p : Piece). p.start) (rest (suc n) from) ++ s) 0 0 ≡ from * hop
-      go (past h) = absurd (let k = rw (rest-past (suc n) from h) at some in omega (arith, k))
-      go (near h l) = rw (rest-near n from h l)
-      go (far h) = rw (rest-far n from h)
-
-    rest-apart : (n from : ℕ) (s e : List ℕ) → CutsApart (length (rest n from)) (map (λ (p : Piece). p.start) (rest n from) ++ s) (map (λ (p : Piece). p.end) (rest n from) ++ e)
-    unfolding rest
-    rest-apart zero from s e = apart_none 0 s e (omega arith)
-    rest-apart (suc n) from s e = go (place (length row) from) (rest-apart n (cut row from) s e)
-      where
-        go : Place (length row) from
-            → CutsApart (length (rest n (cut row from))) (map (λ (p : Piece). p.start) (rest n (cut row from)) ++ s) (map (λ (p : Piece). p.end) (rest n (cut row from)) ++ e)
-            → CutsApart (length (rest (suc n) from)) (map (λ (p : Piece). p.start) (rest (suc n) from) ++ s) (map (λ (p : Piece). p.end) (rest (suc n) from) ++ e)
-        go (past h) later = rw (rest-past (suc n) from h) (apart_none 0 s e (omega arith))
-        go (near h l) later = rw (rest-near n from h l) (apart_none 1 (from * hop ∷ s) (count ∷ e) (omega arith))
-        go (far h) later =
-            let b = cut-beyond row from in
-            rw (rest-far n from h)
-            (apart_more (length (rest n (cut row from))) (from * hop) (cut row from * hop) _ _ (omega (arith, b)) (rest-starts n (cut row from) s) later)
 
     -- ---- The pieces that are left from a frame on.
     pub left : ℕ → List Piece
@@ -209,13 +185,12 @@ module _ (row : List Bool) where
     pieces-left = rw sub-zero (walk-rest (length row) (pos 0) (at 0))
 
     -- ---- What is promised of the walk.
-    pub pieces-over-apart : (s e : List ℕ)
-        → CutsApart (length (pieces row count)) (over (map (λ (p : Piece). p.start) (pieces row count)) s) (over (map (λ (p : Piece). p.end) (pieces row count)) e)
-    unfolding left
-    pieces-over-apart s e = rw pieces-left (rest-apart (length row - 0) 0 _ _)
+    pub never_stuck : (walked row count).stuck ≡ false
+    unfolding walked
+    never_stuck = walk-free (length row) (pos 0) (at 0)
 
     pub fuel-suffices : (n : ℕ) → length row ≤ n
-        → run (λ (k : ℤ). piece_turn row count) n (pos 0) (on (record { pieces = []; from = 0 })) ≡ walked row count
+        → run (λ (k : ℤ). piece_turn row count) n (pos 0) (on (record { pieces = []; from = 0; stuck = false })) ≡ walked row count
     unfolding walked
     fuel-suffices n h = walk-fuel n (length row) (pos 0) (pos 0) (at 0) (omega arith) (omega arith)
 

@@ -1,8 +1,8 @@
 -- pieces.rs, and document 01's "Pieces". A `row` says which frames are quiet. Assumes nothing.
-use Rattle.std.specs.Prelude.{ℕ, ◌+◌, ◌-◌, ◌/◌, ◌*◌, ◌≤◌, ◌<◌, ◌≡◌, Bool, true, false, cond, ◌&&◌, ◌||◌, List, [], ◌∷◌, ◌++◌, map, get_or, length, drop, leb, ltb, eqb, ℤ, pos, Float}
+use Rattle.std.specs.Prelude.{ℕ, ◌+◌, ◌-◌, ◌/◌, ◌*◌, ◌≤◌, ◌≡◌, Bool, true, false, cond, ◌&&◌, ◌||◌, List, [], ◌∷◌, ◌++◌, map, get_or, length, drop, leb, ltb, eqb, ℤ, pos, Float}
 use Rattle.base.specs.Loop.{each, run, Turn, on, out}
 use Rattle.base.specs.Refusals.{number, Test, test, first, Says, accepts, refuses}
-use Rattle.base.specs.declared.Refusal.TheVariants.{Counts, Levels, Places}
+use Rattle.base.specs.declared.Refusal.TheVariants.{Counts, Levels, Places, Cut}
 use Rattle.base.specs.declared.Rule.{Rule}
 use Rattle.base.specs.declared.Rule.TheVariants.{Fine, Breaks}
 use Rattle.limits.specs.Limits.{many_samples, other_levels, few_places}
@@ -64,17 +64,18 @@ pub record Piece : Type 0 where
   pub start : ℕ
   pub end : ℕ
 
--- ---- The loop's state: the pieces so far, and where the next starts.
+-- ---- The loop's state: the pieces so far, where the next starts, and whether a cut was not beyond its piece's start.
 pub record State : Type 0 where
   pub pieces : List Piece
   pub from : ℕ
+  pub stuck : Bool
 
 abbrev pub push : State → Piece → ℕ → State
-push s p from = record { pieces = s.pieces ++ (p ∷ []); from = from }
+push s p from = record { pieces = s.pieces ++ (p ∷ []); from = from; stuck = s.stuck || leb from s.from }
 
 -- ---- "with 2,000 or fewer frames left, the last piece ends at the sample count"
 abbrev pub last : ℕ → State → State
-last count s = record { pieces = s.pieces ++ (record { start = s.from * hop; end = count } ∷ []); from = s.from }
+last count s = record { pieces = s.pieces ++ (record { start = s.from * hop; end = count } ∷ []); from = s.from; stuck = s.stuck }
 
 -- ---- while from < frames { .. }, a turn.
 unfoldable pub piece_turn : List Bool → ℕ → State → Turn State
@@ -85,9 +86,9 @@ piece_turn row count s =
     (on (push s (record { start = s.from * hop; end = cut row s.from * hop }) (cut row s.from))))
     (out s)
 
--- ---- The whole loop. Every turn but the last ends at a later frame, so there are no more turns than frames.
+-- ---- The whole loop. Every turn but the last ends a frame further on, so there are no more turns than frames.
 unfoldable pub walked : List Bool → ℕ → State
-walked row count = run (λ (k : ℤ). piece_turn row count) (length row) (pos 0) (on (record { pieces = []; from = 0 }))
+walked row count = run (λ (k : ℤ). piece_turn row count) (length row) (pos 0) (on (record { pieces = []; from = 0; stuck = false }))
 
 unfoldable pub pieces : List Bool → ℕ → List Piece
 pieces row count = (walked row count).pieces
@@ -112,7 +113,7 @@ abbrev pub says : Answer → Says ℕ
 says (Accepted n) = accepts n
 says (Refused r) = refuses (number r)
 
--- ---- The call: refusals 4, 7, 6, in this order; what is given back and what the lent places hold afterwards.
+-- ---- The call: refusals 4, 7, 6, 8, in this order; what is given back and what the lent places hold afterwards.
 pub record Output : Type 0 where
   pub answer : Answer
   pub starts : List ℕ
@@ -121,11 +122,12 @@ pub record Output : Type 0 where
 abbrev pub output : Answer → List ℕ → List ℕ → Output
 output a s e = record { answer = a; starts = s; ends = e }
 
-unfoldable pub tests : ℕ → ℕ → ℕ → ℕ → List Test
-tests frames count starts ends =
+unfoldable pub tests : List Float → Float → ℕ → ℕ → ℕ → List Test
+tests levels floor count starts ends =
     test (many_samples count) Counts
-    ∷ test (other_levels frames count) Levels
-    ∷ test (few_places starts (need frames) || few_places ends (need frames)) Places
+    ∷ test (other_levels (length levels) count) Levels
+    ∷ test (few_places starts (need (length levels)) || few_places ends (need (length levels))) Places
+    ∷ test (walked (quiet_row floor levels) count).stuck Cut
     ∷ []
 
 -- ---- "Places past the pieces found stay."
@@ -140,14 +142,4 @@ by_rule Fine ps s e = accepted ps s e
 by_rule (Breaks r) ps s e = output (Refused r) s e
 
 unfoldable pub pieces_call : List Float → Float → ℕ → List ℕ → List ℕ → Output
-pieces_call levels floor count s e = by_rule (first (tests (length levels) count (length s) (length e))) (pieces (quiet_row floor levels) count) s e
-
--- ---- Document 02: "every cut lies at least 1,203 frames beyond its piece's start".
-abbrev pub least_cut : ℕ
-least_cut = 1203
-
--- ---- The same of n pieces in their places: the end of each but the last is its cut; it lies that far or further beyond the start, and there the
--- next one starts.
-pub record CutsApart (n : ℕ) (starts ends : List ℕ) : Type 0 where
-  pub beyond : (i : ℕ) → i + 1 < n → get_or starts i 0 + least_cut * hop ≤ get_or ends i 0
-  pub next : (i : ℕ) → i + 1 < n → get_or starts (i + 1) 0 ≡ get_or ends i 0
+pieces_call levels floor count s e = by_rule (first (tests levels floor count (length s) (length e))) (pieces (quiet_row floor levels) count) s e

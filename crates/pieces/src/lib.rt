@@ -89,17 +89,17 @@ fn short_of_places(frames: usize, starts: usize, ends: usize) -> bool
     limits::sizes::few_places(ends, places)
 }
 
-// The first refusal that applies, of 4, 7, 6.
-fn judge(frames: usize, count: usize, starts: usize, ends: usize) -> Rule
-    ensures { result ≡ first (tests frames count starts ends) }
+// The first refusal that applies, of 4, 7, 6; a cut is always beyond its piece's start, so that 8 never does.
+fn judge(levels: &[f64], floor: f64, count: usize, starts: &[usize], ends: &[usize]) -> Rule
+    ensures { result ≡ first (tests levels.now floor count (length starts.now) (length ends.now)) }
 {
     if limits::sizes::many_samples(count) {
         return Rule::Breaks(Refusal::Counts);
     }
-    if limits::sizes::other_levels(frames, count) {
+    if limits::sizes::other_levels(levels.len(), count) {
         return Rule::Breaks(Refusal::Levels);
     }
-    if short_of_places(frames, starts, ends) {
+    if short_of_places(levels.len(), starts.len(), ends.len()) {
         return Rule::Breaks(Refusal::Places);
     }
     Rule::Fine
@@ -134,7 +134,7 @@ pub fn pieces_at(
     ensures { output result starts.new ends.new
         ≡ pieces_call levels.now floor count starts.old ends.old }
 {
-    let rule = judge(levels.len(), count, starts.len(), ends.len());
+    let rule = judge(levels, floor, count, starts, ends);
     match rule {
         Rule::Breaks(why) => Answer::Refused(why),
         Rule::Fine => accept(levels, floor, count, starts, ends),

@@ -74,21 +74,21 @@ module _ (ws : Words) where
   pub listed-sound : (levels samples : ℕ) → Listed (3 ∷ 4 ∷ 1 ∷ 2 ∷ 7 ∷ []) (in_order (sound_applies ws levels samples))
   unfolding in_order also when of_words of_levels of_samples
   listed-sound levels samples =
-      (inr (inl refl), (inr (inr (inl refl)), (inr (inr (inr (inl refl))), (inr (inr (inr (inr (inl refl)))), (inr (inr (inr (inr (inr (inl refl))))), (inl refl, tt))))))
+      (inr (inl refl), (inr (inr (inl refl)), (inr (inr (inr (inl refl))), (inr (inr (inr (inr (inl refl)))), (inr (inr (inr (inr (inr (inl refl))))), (inl refl, (inl refl, tt)))))))
 
   pub listed-timed : (levels samples : ℕ) (duration : Float) → Listed (3 ∷ 4 ∷ 1 ∷ 2 ∷ 7 ∷ []) (in_order (timed_applies ws levels samples duration))
   unfolding in_order also when of_words of_levels of_samples of_time
   listed-timed levels samples duration =
-      (inr (inl refl), (inr (inr (inl refl)), (inr (inr (inr (inl refl))), (inr (inr (inr (inr (inl refl)))), (inr (inr (inr (inr (inr (inl refl))))), (inl refl, tt))))))
+      (inr (inl refl), (inr (inr (inl refl)), (inr (inr (inr (inl refl))), (inr (inr (inr (inr (inl refl)))), (inr (inr (inr (inr (inr (inl refl))))), (inl refl, (inl refl, tt)))))))
 
   pub listed-limit : (limit : Float) → Listed (3 ∷ 4 ∷ 1 ∷ 2 ∷ []) (in_order (limit_applies ws limit))
   unfolding in_order also when of_words of_limit
-  listed-limit limit = (inr (inl refl), (inr (inr (inl refl)), (inr (inr (inr (inl refl))), (inr (inr (inr (inr (inl refl)))), (inl refl, (inl refl, tt))))))
+  listed-limit limit = (inr (inl refl), (inr (inr (inl refl)), (inr (inr (inr (inl refl))), (inr (inr (inr (inr (inl refl)))), (inl refl, (inl refl, (inl refl, tt)))))))
 
   pub listed-spans : (sp : Spans) (places need : ℕ) → Listed (3 ∷ 4 ∷ 1 ∷ 2 ∷ 6 ∷ []) (in_order (spans_applies ws sp places need))
   unfolding in_order also when of_words of_spans of_places
   listed-spans sp places need =
-      (inr (inl refl), (inr (inr (inl refl)), (inr (inr (inr (inl refl))), (inr (inr (inr (inr (inl refl)))), (inl refl, (inr (inr (inr (inr (inr (inl refl))))), tt))))))
+      (inr (inl refl), (inr (inr (inl refl)), (inr (inr (inr (inl refl))), (inr (inr (inr (inr (inl refl)))), (inl refl, (inr (inr (inr (inr (inr (inl refl))))), (inl refl, tt)))))))
 
   pub listed-phrases : (phrases : ℕ) (sp : Spans) (levels samples places need : ℕ) → Listed (3 ∷ 4 ∷ 1 ∷ 2 ∷ 7 ∷ 6 ∷ []) (in_order (phrases_applies ws phrases sp levels samples places need))
   unfolding in_order also when of_words of_levels of_samples of_list of_spans of_places
@@ -98,7 +98,7 @@ module _ (ws : Words) where
       inr (inr (inl refl)),
       (
         inr (inr (inr (inl refl))),
-        (inr (inr (inr (inr (inl refl)))), (inr (inr (inr (inr (inr (inl refl))))), (inr (inr (inr (inr (inr (inr (inl refl)))))), tt))),
+        (inr (inr (inr (inr (inl refl)))), (inr (inr (inr (inr (inr (inl refl))))), (inr (inr (inr (inr (inr (inr (inl refl)))))), (inl refl, tt)))),
       ),
     ),
   )

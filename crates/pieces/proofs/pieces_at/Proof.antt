@@ -1,5 +1,5 @@
 -- The public call, by what judge found. Assumes nothing.
-use mathlib.Core.Path.{sym, ◌∙◌}
+use mathlib.Core.Path.{refl, sym, ◌∙◌}
 use borrow.Author.Rules.{rules}
 use Rattle.pieces.proofs.Rules.{fine-ready, refused-made, call-made}
 use Rattle.pieces.proofs.pieces_at.Statement.{statement}
@@ -15,16 +15,22 @@ enum_told : tie.Need-enum-told
 enum_told c = search rules
 
 accept-requires : tie.Need-accept-requires
-accept-requires c κs = fine-ready _ _ _ _ (sym c.before.before.before.before.judge.ensures ∙ c.before.before.enum_told.given.1)
+accept-requires c κs = fine-ready _ _ _ _ _ (sym c.before.before.before.before.judge.ensures ∙ c.before.before.enum_told.given.1)
+
+same_length : tie.Need-same-length
+same_length c = refl
+
+same-length-2 : tie.Need-same-length-2
+same-length-2 c = refl
 
 returns : tie.Need-returns
 returns c = refused-made _ _ _ _ _ _ c.before.before.before.judge.ensures c.before.rule.given.1
 
-same_length : tie.Need-same-length
-same_length c = c.before.before.before.before.accept.auto.1.1.1.0
+same-length-3 : tie.Need-same-length-3
+same-length-3 c = c.before.before.before.before.accept.auto.1.1.1.0
 
-same-length-2 : tie.Need-same-length-2
-same-length-2 c = c.before.before.before.before.accept.auto.1.1.1.1.0
+same-length-4 : tie.Need-same-length-4
+same-length-4 c = c.before.before.before.before.accept.auto.1.1.1.1.0
 
 returns-2 : tie.Need-returns-2
 returns-2 c =
@@ -41,7 +47,9 @@ pieces-at-spec =
     enum-known-rule
     enum_told
     accept-requires
-    returns
     same_length
     same-length-2
+    returns
+    same-length-3
+    same-length-4
     returns-2)
