@@ -1,4 +1,6 @@
 // What every part shares: the refusals of document 01 with their numbers, and a word's times.
+#![tactic(auto)]
+
 ghost use Rattle.std.specs.Prelude.{◌≡◌, min, ◌≤◌, length};
 ghost use Rattle.base.specs.Refusals.{number as number_of};
 ghost use Rattle.base.specs.Words.{words, words_in_places};

@@ -1,5 +1,7 @@
 // The calls of this library for C, C++ and Rust, as include/qiluvrait.h declares them. Each hands
 // its arguments on to the function it names, and has that function's contract.
+#![tactic(auto)]
+
 ghost use Rattle.std.specs.Prelude.{◌≡◌, cond, length};
 ghost use Rattle.std.specs.Float.{binary64};
 ghost use Rattle.js.specs.Js.{js_min, js_max, js_to_fixed};

@@ -1,1 +1,2 @@
 // The worked examples that document 01 marks: theorems alone.
+#![tactic(auto)]

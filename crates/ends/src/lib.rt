@@ -1,4 +1,6 @@
 // Loose ends, moved to where the sound stops (onsets.rs, snap_ends).
+#![tactic(auto)]
+
 ghost use Rattle.std.specs.Prelude.{◌≡◌, ◌+◌, ◌<◌, ◌≤◌, ◌^◌, length};
 ghost use Rattle.base.specs.Words.{words, edges};
 ghost use Rattle.envelope.specs.Envelope.{loud_row};

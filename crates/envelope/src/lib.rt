@@ -1,4 +1,6 @@
 // The levels of a recording and the floor under them, by one call, and loud frames (envelope.rs).
+#![tactic(auto)]
+
 ghost use Rattle.std.specs.Prelude.{◌≡◌, ◌≤◌, false, length, slice_index_or};
 ghost use Rattle.base.specs.Refusals.{first};
 ghost use Rattle.envelope.specs.Envelope.{frames, loud_row, output, tests, accepted, envelope_call};

@@ -1,4 +1,6 @@
 // Words too short to have been said, and the time they get (even.rs, even_out).
+#![tactic(auto)]
+
 ghost use Rattle.std.specs.Prelude.{◌≡◌, ◌-◌, ◌<◌, ◌≤◌, length};
 ghost use Rattle.base.specs.Words.{words, edges};
 ghost use Rattle.word_calls.specs.Calls.{output};

@@ -1,4 +1,6 @@
 // Words fitted to their sound, phrase by phrase: the call (fit.rs, fit_file).
+#![tactic(auto)]
+
 ghost use Rattle.std.specs.Prelude.{◌≡◌, ◌≤◌, length};
 ghost use Rattle.base.specs.Words.{words, spans};
 ghost use Rattle.word_calls.specs.Calls.{output};

@@ -1,4 +1,6 @@
 // Words fitted to their sound (fit.rs, fit_to_sound).
+#![tactic(auto)]
+
 ghost use Rattle.std.specs.Prelude.{◌≡◌, ◌≤◌, ◌^◌, length, false};
 ghost use Rattle.std.specs.Float.{inf};
 ghost use Rattle.base.specs.Words.{words, edges};

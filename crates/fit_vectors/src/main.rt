@@ -18,6 +18,8 @@
 //       the output shows that a wrong answer is seen
 //
 // A row is wrong where the call refuses it.
+#![tactic(auto)]
+
 use libc::{STDIN_FILENO, STDOUT_FILENO};
 
 // The places of a tally: one for each kind of row, and the last for what is no row.

@@ -1,4 +1,6 @@
 // fitlist_runs: the stored runs of fitlist. Each argument names a job; prints the name, and then what fitlist prints for that job.
+#![tactic(auto)]
+
 use libc::STDOUT_FILENO;
 
 // Prints the name of a job, and what is printed for it.

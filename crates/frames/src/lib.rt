@@ -1,4 +1,6 @@
 // Frames of a time, and seconds of a frame (envelope.rs).
+#![tactic(auto)]
+
 ghost use Rattle.std.specs.Prelude.{◌≡◌, ◌-◌, ◌*◌, ◌^◌, min, pos, neg_ℤ, int_lt, unsigned_abs};
 ghost use Rattle.std.specs.Float.{binary64};
 ghost use Rattle.std.specs.Float.Ieee.{of_int, to_unsigned};

@@ -1,4 +1,6 @@
 // The full run (document 01, "Full run").
+#![tactic(auto)]
+
 ghost use Rattle.std.specs.Prelude.{◌≡◌, ◌++◌, ◌≤◌, length, drop};
 ghost use Rattle.base.specs.Words.{words, spans};
 ghost use Rattle.envelope.specs.Envelope.{frames, levels as levels_of, floor as floor_of};

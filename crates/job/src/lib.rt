@@ -1,4 +1,6 @@
 // A job, from its bytes to the text that is printed for it (document 01, "Tally, peak, job file").
+#![tactic(auto)]
+
 ghost use Rattle.std.specs.Prelude.{◌≡◌, List, ◌++◌, ℕ, ◌+◌, ◌*◌, ◌/◌, ◌≤◌, length, take, drop, replicate};
 ghost use Rattle.envelope.specs.Envelope.{levels as levels_of};
 ghost use Rattle.job_layout.specs.Layout.{contents, samples_from};

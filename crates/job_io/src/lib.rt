@@ -1,5 +1,7 @@
 // A job read from a descriptor, its samples a stretch at a time, of which only the levels are kept (document 01, "Tally, peak, job file").
 // Nothing here decides what is printed: `job::judge` does, which is handed what came.
+#![tactic(auto)]
+
 ghost use Rattle.std.specs.Prelude.{◌≡◌, ◌+◌, ◌*◌, ◌/◌, ◌≤◌, ltb, length, take};
 ghost use Rattle.job_io.specs.Answers.{Received, Answers};
 ghost use Rattle.job_io.specs.Parts.{heard_stretch, Heard, Follows};

@@ -1,4 +1,6 @@
 // The lines that the program prints, written into lent places (document 01, "Tally, peak, job file").
+#![tactic(auto)]
+
 ghost use Rattle.std.specs.Prelude.{◌≡◌, not, [], ◌∷◌, ◌+◌, ◌*◌, ◌<◌, ◌≤◌, T, length};
 ghost use Rattle.std.specs.Float.Ieee.{is_nan};
 ghost use Rattle.job_text.specs.Text.{digit as digit_of, decimal_in, hex_in, bits_of, refused_line, piece_line, phrase_text, word_line, piece_lines, word_lines};

@@ -1,4 +1,6 @@
 // The last run of sound between two times (fit.rs, last_run).
+#![tactic(auto)]
+
 ghost use Rattle.std.specs.Prelude.{◌≡◌, true, false, ◌||◌, ◌<◌, ◌≤◌, ◌^◌, pos, length};
 ghost use Rattle.base.specs.Refusals.{first};
 ghost use Rattle.limits.specs.Limits.{bad_time};

@@ -1,4 +1,6 @@
 // The tests of lists behind the refusals of document 01, and the order of all tests.
+#![tactic(auto)]
+
 ghost use Rattle.std.specs.Prelude.{◌≡◌};
 ghost use Rattle.limits.specs.Limits.{bad_time, any, bad_word_times, bad_span_times, bad_letters, bad_counts, outside};
 ghost use Rattle.limits.specs.Order.{when as when_of, also as also_of, chain as chain_of};

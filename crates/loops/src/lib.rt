@@ -1,4 +1,6 @@
 // Loops of a recognizer, collapsed to their first copy (loops.rs).
+#![tactic(auto)]
+
 ghost use Rattle.std.specs.Prelude.{◌≡◌, length};
 ghost use Rattle.base.specs.Words.{words};
 ghost use Rattle.base.specs.Parts.{OneLength};

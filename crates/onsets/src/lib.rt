@@ -1,4 +1,6 @@
 // Starts after a pause, moved back to where the sound rises (onsets.rs, snap_onsets).
+#![tactic(auto)]
+
 ghost use Rattle.std.specs.Prelude.{◌≡◌, max, ◌-◌, ◌≤◌, pos, length};
 ghost use Rattle.base.specs.Words.{words, edges};
 ghost use Rattle.envelope.specs.Envelope.{loud_row};

@@ -1,4 +1,6 @@
 // What a word's samples hold: the largest magnitude (transcriber.rs, peak).
+#![tactic(auto)]
+
 ghost use Rattle.std.specs.Prelude.{◌≡◌, ◌≤◌, min, length, pos, from_bits};
 ghost use Rattle.std.specs.Float.{binary64};
 ghost use Rattle.base.specs.Whole.{to_nat};

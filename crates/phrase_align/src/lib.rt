@@ -1,4 +1,6 @@
 // Words placed in the spans of their phrases (phrase_align.rs, align_phrases).
+#![tactic(auto)]
+
 ghost use Rattle.std.specs.Prelude.{◌≡◌, ◌≤◌, length};
 ghost use Rattle.base.specs.Words.{words, spans};
 ghost use Rattle.base.specs.Parts.{OneLength};

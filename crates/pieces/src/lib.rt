@@ -1,4 +1,6 @@
 // Pieces of a recording, cut in its quiet (pieces.rs).
+#![tactic(auto)]
+
 ghost use Rattle.std.specs.Prelude.{◌≡◌, ◌||◌, ◌+◌, ◌<◌, length};
 ghost use Rattle.base.specs.Refusals.{first};
 ghost use Rattle.limits.specs.Limits.{few_places};

@@ -1,4 +1,6 @@
 // IEEE 754's square root of an f64, worked out from its bits in whole numbers; a guess in floats is tested in whole numbers before it counts.
+#![tactic(auto)]
+
 ghost use Rattle.std.specs.Prelude.{◌≡◌, true, ◌+◌, ◌*◌, ◌^◌, ◌≤◌, ◌<◌};
 ghost use Rattle.std.specs.Float.{binary64};
 ghost use Rattle.std.specs.Float.Ieee.{of_bits};

@@ -1,4 +1,6 @@
 // A full run after its levels (document 01, "Full run"): the pieces, and the words through all stages; nothing is checked.
+#![tactic(auto)]
+
 ghost use Rattle.std.specs.Prelude.{◌≡◌, length};
 ghost use Rattle.base.specs.Words.{words, spans};
 ghost use Rattle.envelope.specs.Envelope.{loud_row, quiet_row};

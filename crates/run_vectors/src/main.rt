@@ -22,6 +22,8 @@
 // the four words' places their starts, ends, letters, units, keys and phrase numbers, each of which is 9
 // before. Folding a number turns what there is by 5 bits to the left and takes the exclusive or. Any NaN
 // stands for every NaN. A row is wrong where the call refuses it.
+#![tactic(auto)]
+
 ghost use Rattle.std.specs.Prelude.{◌≤◌};
 
 use libc::{STDIN_FILENO, STDOUT_FILENO};

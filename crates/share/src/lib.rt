@@ -1,4 +1,6 @@
 // A time shared out by letters: the loop of `spread` (phrase_align.rs), and the last loop of `even_out` (even.rs).
+#![tactic(auto)]
+
 ghost use Rattle.std.specs.Prelude.{◌≡◌, ◌≤◌, length};
 ghost use Rattle.base.specs.Floats.{num};
 ghost use Rattle.base.specs.Words.{edges};

@@ -1,4 +1,6 @@
 // The words of one phrase placed in its span (phrase_align.rs, what align_phrases does with a phrase's words).
+#![tactic(auto)]
+
 ghost use Rattle.std.specs.Prelude.{◌≡◌, ◌+◌, ◌<◌, ◌≤◌, length};
 ghost use Rattle.base.specs.Words.{edges};
 ghost use Rattle.spread.specs.Spread.{between_turn, place_between, place_group};

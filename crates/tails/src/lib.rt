@@ -1,4 +1,6 @@
 // Tails of sound handed back to the word before (onsets.rs, hand_back_tails).
+#![tactic(auto)]
+
 ghost use Rattle.std.specs.Prelude.{◌≡◌, ℕ, ◌<◌, ◌≤◌, ◌^◌, length, get_or};
 ghost use Rattle.base.specs.Words.{words, edges};
 ghost use Rattle.envelope.specs.Envelope.{loud_row};

@@ -1,4 +1,6 @@
 // The loud frames under each span's words: document 01's tally.
+#![tactic(auto)]
+
 ghost use Rattle.std.specs.Prelude.{◌≡◌, ◌++◌, ◌+◌, ◌<◌, ◌≤◌, ◌^◌, length, get_or, take, drop};
 ghost use Rattle.base.specs.Words.{words, spans, edges};
 ghost use Rattle.envelope.specs.Envelope.{loud_row};

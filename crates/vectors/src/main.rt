@@ -13,6 +13,8 @@
 //       half of A on are quiet, and the others are loud; R is the end of the first piece, in samples
 //     X toFixed and Y frame_at, one row each, with an answer that is one step off on purpose, so
 //       that the output shows that a wrong answer is seen
+#![tactic(auto)]
+
 use libc::{STDIN_FILENO, STDOUT_FILENO};
 use vector_rows::Digits;
 

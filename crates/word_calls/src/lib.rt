@@ -1,4 +1,6 @@
 // What calls on words test: which refusals apply, and the first of them.
+#![tactic(auto)]
+
 ghost use Rattle.std.specs.Prelude.{◌≡◌};
 ghost use Rattle.base.specs.Words.{words, spans};
 ghost use Rattle.word_calls.specs.Calls.{uneven, of_words, of_samples, of_levels, of_time, of_limit, uneven_spans, many_spans, of_spans, of_places, of_list};

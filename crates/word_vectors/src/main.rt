@@ -30,6 +30,8 @@
 // of each place, a digit each, and zeros after them; there are as many places as words, and each
 // had a 9. A row is wrong where the call refuses it, or where p, the number of words or that of
 // spans is out of range.
+#![tactic(auto)]
+
 ghost use Rattle.std.specs.Prelude.{◌≤◌, length};
 
 use libc::{STDIN_FILENO, STDOUT_FILENO};
