@@ -1,0 +1,13 @@
+-- `frames::frame_from_zero` meets its contract. Assumes nothing.
+use Rattle.std.proofs.Common.{ℤ, pos, ap, ◌∙◌}
+use Rattle.base.specs.Whole.{max_z}
+use Rattle.frames.specs.Frames.{frame_from_zero}
+use Rattle.frames.proofs.Signed.{read_back}
+use Rattle.frames.proofs.frame_from_zero.Goals as goal
+
+pub returns : goal.returns
+unfolding frame_from_zero
+returns c =
+    read_back c.from_zero.result c.from_zero.type-inv
+    ∙ c.from_zero.ensures
+    ∙ ap (λ (k : ℤ). max_z k (pos 0)) (read_back c.frame_at.result c.frame_at.type-inv ∙ c.frame_at.ensures)

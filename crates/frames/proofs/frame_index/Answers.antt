@@ -1,0 +1,12 @@
+-- `frames::frame_index` meets its contract: from zero to 2 ^ 63 - 1, `as u64` is `as i64`. Assumes nothing.
+use Rattle.std.proofs.Common.{ap, ◌∙◌, arith}
+use lib.Ieee.{to_unsigned}
+use Rattle.frames.specs.Frames.{in_frames, frame_at}
+use Rattle.frames.proofs.Rounding.{floor-nat}
+use Rattle.frames.proofs.frame_index.Goals as goal
+
+pub returns : goal.returns
+unfolding frame_at
+returns c =
+    let k = c.truncated.ensures ∙ ap (to_unsigned 64) c.in_frames.ensures in
+    omega (arith, k, floor-nat (in_frames c.args.t), c.index.ensures)
