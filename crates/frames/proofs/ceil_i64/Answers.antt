@@ -8,7 +8,7 @@ use Rattle.frames.proofs.ceil_i64.Goals as goal
 pub returns-then-x : goal.returns-then-x
 unfolding of_bits
 returns-then-x c =
-    read_back c.minus_to_i64.result c.minus_to_i64.type-inv
+    read_back c.minus_to_i64.result c.minus_to_i64.type_inv
     ∙ c.minus_to_i64.ensures
     ∙ ap (λ (n : ℕ). neg_ℤ (pos (min n (2 ^ 63)))) c.truncated.ensures
     ∙ sym (ceil-sign c.args.x ∙ rw c.if-x.true)
@@ -16,7 +16,7 @@ returns-then-x c =
 pub returns : goal.returns
 unfolding of_bits
 returns c =
-    read_back c.to_i64.result c.to_i64.type-inv
+    read_back c.to_i64.result c.to_i64.type_inv
     ∙ c.to_i64.ensures
     ∙ ap (λ (n : ℕ). pos (min n (2 ^ 63 - 1))) c.ceil_whole.ensures
     ∙ sym (ceil-sign c.args.x ∙ rw c.if-x.false)

@@ -15,4 +15,4 @@ pub returns-then-k-lt9007199254740992 : goal.returns-then-k-lt9007199254740992
 returns-then-k-lt9007199254740992 c = sym (ceil-small _ c.truncated-k.ensures c.if-k-lt9007199254740992.true ∙ rw c.if-k-x.false)
 
 pub returns : goal.returns
-returns c = ceil-large c.args.x (subst T (sym c.well-formed.0.1) tt) c.truncated-k.ensures c.if-k-lt9007199254740992.false
+returns c = ceil-large c.args.x (subst T (sym c.well_formed.0.1) tt) c.truncated-k.ensures c.if-k-lt9007199254740992.false

@@ -7,6 +7,6 @@ use Rattle.frames.proofs.frame_at.Goals as goal
 pub returns : goal.returns
 unfolding frame_at
 returns c =
-    read_back c.floor_i64.result c.floor_i64.type-inv
+    read_back c.floor_i64.result c.floor_i64.type_inv
     ∙ c.floor_i64.ensures
     ∙ ap floor_i64 c.in_frames.ensures

@@ -7,6 +7,6 @@ use Rattle.frames.proofs.frame_ceil.Goals as goal
 pub returns : goal.returns
 unfolding frame_ceil
 returns c =
-    read_back c.ceil_i64.result c.ceil_i64.type-inv
+    read_back c.ceil_i64.result c.ceil_i64.type_inv
     ∙ c.ceil_i64.ensures
     ∙ ap ceil_i64 c.in_frames.ensures

@@ -8,6 +8,6 @@ use Rattle.frames.proofs.frame_from_zero.Goals as goal
 pub returns : goal.returns
 unfolding frame_from_zero
 returns c =
-    read_back c.from_zero.result c.from_zero.type-inv
+    read_back c.from_zero.result c.from_zero.type_inv
     ∙ c.from_zero.ensures
-    ∙ ap (λ (k : ℤ). max_z k (pos 0)) (read_back c.frame_at.result c.frame_at.type-inv ∙ c.frame_at.ensures)
+    ∙ ap (λ (k : ℤ). max_z k (pos 0)) (read_back c.frame_at.result c.frame_at.type_inv ∙ c.frame_at.ensures)

@@ -5,17 +5,16 @@ use Rattle.frames.specs.Frames.{frame_seconds}
 use Rattle.frames.proofs.Signed.{read_back, test_back}
 use Rattle.frames.proofs.Times.{seconds-sign}
 use Rattle.frames.proofs.frame_seconds.Goals as goal
+use Rattle.frames.proofs.frame_seconds.Goals.{After-seconds-s}
 
 -- the seconds of k without its sign
-unsigned : (c : tie.After-seconds) → c.seconds.result ≡ frame_seconds (pos (nat_abs c.before.before.args.k))
-unsigned c =
-    let s = c.before.before in
-    c.seconds.ensures ∙ ap (λ (n : ℕ). frame_seconds (pos n)) (c.before.magnitude.ensures ∙ ap nat_abs (read_back s.args.k s.ranges.k.sfits))
+unsigned : (c : After-seconds-s) → c.seconds-s.result ≡ frame_seconds (pos (nat_abs c.args.k))
+unsigned c = c.seconds-s.ensures ∙ ap (λ (n : ℕ). frame_seconds (pos n)) (c.magnitude.ensures ∙ ap nat_abs (read_back c.args.k c.ranges.k.sfits))
 
 pub returns-then-k-lt0 : goal.returns-then-k-lt0
 returns-then-k-lt0 c =
-    ap neg (unsigned c.before) ∙ sym (seconds-sign c.args.k ∙ rw (test_back c.args.k c.ranges.k.sfits c.if-k-lt0.true))
+    ap neg (unsigned (goal.at.returns-then-k-lt0 c).After-seconds-s) ∙ sym (seconds-sign c.args.k ∙ rw (test_back c.args.k c.ranges.k.sfits c.if-k-lt0.true))
 
 pub returns : goal.returns
 returns c =
-    unsigned c.before ∙ sym (seconds-sign c.args.k ∙ rw (test_back c.args.k c.ranges.k.sfits c.if-k-lt0.false))
+    unsigned (goal.at.returns c).After-seconds-s ∙ sym (seconds-sign c.args.k ∙ rw (test_back c.args.k c.ranges.k.sfits c.if-k-lt0.false))

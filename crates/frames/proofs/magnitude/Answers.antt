@@ -4,8 +4,8 @@ use lib.Signed.{mag, nat_abs-le}
 use Rattle.frames.proofs.Signed.{not-below, read_back, test_back, less-fits, less-back, size_back}
 use Rattle.frames.proofs.magnitude.Goals as goal
 
-less : (c : tie.Then1) → to_z w64 (of_z w64 (negsuc 0 -ℤ to_z w64 (of_z w64 c.before.args.k))) ≡ pos (mag c.before.args.k)
-less c = less-back c.before.args.k c.before.ranges.k.sfits c.if1.true
+less : (c : goal.Then-k-lt0) → to_z w64 (of_z w64 (negsuc 0 -ℤ to_z w64 (of_z w64 c.args.k))) ≡ pos (mag c.args.k)
+less c = less-back c.args.k c.ranges.k.sfits c.if-k-lt0.true
 
 pub overflow_sub-result : goal.overflow_sub-result
 overflow_sub-result c = less-fits c.args.k c.ranges.k.sfits c.if-k-lt0.true

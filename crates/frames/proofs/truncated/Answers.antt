@@ -6,7 +6,7 @@ use Rattle.frames.proofs.truncated.Goals as goal
 
 pub truncating_f64_to_u64-requires : goal.truncating_f64_to_u64-requires
 unfolding of_bits neg
-truncating_f64_to_u64-requires c = (subst T (sym c.if-x.true) tt, subst T (sym c.if-x-2.true) tt)
+truncating_f64_to_u64-requires c = record { lower_bound = subst T (sym c.if-x.true) tt; upper_bound = subst T (sym c.if-x-2.true) tt }
 
 pub returns-then-x-2 : goal.returns-then-x-2
 returns-then-x-2 c = c.truncating_f64_to_u64.ensures
