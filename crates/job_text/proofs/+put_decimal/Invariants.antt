@@ -1,0 +1,5 @@
+-- How many digits may still come.
+use Rattle.job_text.proofs.+put_decimal.Given as goal
+
+abbrev pub decreases-put_decimal : goal.decreases-put_decimal
+decreases-put_decimal l = l.most

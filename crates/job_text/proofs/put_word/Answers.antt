@@ -1,0 +1,10 @@
+-- `job_text::put_word` meets its contract: its parts one after another. Assumes nothing.
+use Rattle.job_text.specs.Text.{word_text}
+use Rattle.job_text.proofs.Writing.{word-line}
+use Rattle.job_text.proofs.put_word.Goals as goal
+
+pub returns : goal.returns
+unfolding word_text
+returns c =
+    word-line _ _ _ _ c.put_text-text.ensures c.put_bits-first.ensures c.put-between.ensures
+    c.put_bits-second.ensures c.put-after.ensures c.put_phrase-number.ensures c.put.ensures
