@@ -1,0 +1,8 @@
+-- `loops::copy::move_word` meets its contract: one store in each list. Assumes nothing.
+use mathlib.Core.Path.{refl}
+use Rattle.loops.specs.Parts.{moved}
+use Rattle.loops.proofs.copy.move_word.Goals as goal
+
+pub returns : goal.returns
+unfolding moved
+returns c = refl

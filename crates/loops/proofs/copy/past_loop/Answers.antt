@@ -1,0 +1,16 @@
+-- `loops::copy::past_loop` meets its contract, by what the test for a loop found. Assumes nothing.
+use native.Mathlib.Omega.{arith}
+use Rattle.loops.proofs.Held.{goes-behind, goes_on}
+use Rattle.loops.proofs.copy.past_loop.Goals as goal
+
+pub is_loop-requires : goal.is_loop-requires
+is_loop-requires c = (omega arith, (omega arith, (omega arith, omega arith)))
+
+pub copies_end-requires : goal.copies_end-requires
+copies_end-requires c = (omega arith, (omega arith, (omega arith, omega arith)))
+
+pub returns-then-is_loop : goal.returns-then-is_loop
+returns-then-is_loop c = (goes-behind _ _ _ _ _ (omega arith) (omega arith) (omega arith) c.is_loop.ensures c.if-is_loop.true c.copies_end.ensures.0, c.copies_end.ensures.1)
+
+pub returns : goal.returns
+returns c = (goes_on _ _ _ _ _ (omega arith) (omega arith) (omega arith) c.is_loop.ensures c.if-is_loop.false, (omega arith, omega arith))

@@ -1,0 +1,14 @@
+-- `loops::pass::pass` meets its contract: too few words stay, and enough are walked over. Assumes nothing.
+use native.Mathlib.Omega.{arith}
+use Rattle.loops.proofs.InPlace.{pass-short}
+use Rattle.loops.proofs.pass.pass.Goals as goal
+
+pub returns-then-len-n : goal.returns-then-len-n
+returns-then-len-n c = (pass-short _ _ (omega arith) _ _ c.requires.0 c.if-len-n.true, omega arith)
+
+pub collapse_runs-requires : goal.collapse_runs-requires
+collapse_runs-requires c =
+    (c.requires.0, (omega arith, (omega arith, (omega arith, omega arith))))
+
+pub returns : goal.returns
+returns c = c.collapse_runs.ensures
