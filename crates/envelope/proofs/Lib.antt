@@ -6,6 +6,5 @@ pub mod Answers
 pub mod Limits
 pub mod Loudness
 pub mod Promises
-pub mod Walks
 mod Witnesses
 pub mod Scan

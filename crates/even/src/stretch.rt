@@ -20,7 +20,7 @@ const SLOW_WORD: f64 = 0.1;
 const MAX_SPAN: usize = 6;
 
 // A run of words: the first, the last, and where the last one ends.
-#[derive(Drop)]
+#[derive(Clone, Copy)]
 pub struct Stretch {
     pub first: usize,
     pub last: usize,

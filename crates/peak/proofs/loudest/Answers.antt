@@ -6,10 +6,6 @@ use Rattle.js.specs.Js.{js_max}
 use Rattle.peak.specs.Peak.{magnitude}
 use Rattle.peak.proofs.loudest.Goals as goal
 
-shared-slice-read-f32-to-f64-with-nan :
-    tie.Need-shared-slice-read-f32-to-f64-with-nan invariant-loop decreases-loop
-shared-slice-read-f32-to-f64-with-nan c = search rules
-
 pub loop-i-init : goal.loop-i-init
 loop-i-init c = range-pos _ _ _ _
 

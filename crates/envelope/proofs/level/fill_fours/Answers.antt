@@ -9,7 +9,7 @@ loop-k-init c = (omega arith, (refl, each_start _ _ _))
 pub loop-k-preserved : goal.loop-k-preserved
 loop-k-preserved c =
     let h = c.loop-k.invariant in
-    (omega arith, (c.store_four.auto.1.0 ∙ h.1.0, h.1.1 ∙ each_after _ _ _ 4 _ (omega arith) c.store_four.ensures))
+    (omega arith, (c.store_four.auto.levels ∙ h.1.0, h.1.1 ∙ each_after _ _ _ 4 _ (omega arith) c.store_four.ensures))
 
 pub returns : goal.returns
 returns c = (c.loop-k.invariant.0, c.loop-k.invariant.1.1)

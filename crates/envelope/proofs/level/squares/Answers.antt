@@ -5,10 +5,6 @@ use Rattle.base.proofs.Loops.{fold_next, fold_done}
 use Rattle.envelope.specs.Envelope.{squares}
 use Rattle.envelope.proofs.level.squares.Goals as goal
 
-shared-slice-read-f32-to-f64-with-nan :
-    tie.Need-shared-slice-read-f32-to-f64-with-nan invariant-loop decreases-loop
-shared-slice-read-f32-to-f64-with-nan c = omega arith
-
 pub loop-i-init : goal.loop-i-init
 unfolding squares
 loop-i-init c = (search rules, refl)
