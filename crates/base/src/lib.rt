@@ -7,7 +7,7 @@ ghost use Rattle.base.specs.Words.{words, words_in_places};
 ghost use Rattle.base.specs.Parts.{OneLength, first_words};
 
 // Why a call refuses.
-#[derive(Drop)]
+#[derive(Clone, Copy)]
 pub enum Refusal {
     // a time outside its range
     Time,
@@ -28,28 +28,28 @@ pub enum Refusal {
 }
 
 // What the checks of a call find: nothing, or the first refusal that applies.
-#[derive(Drop)]
+#[derive(Clone, Copy)]
 pub enum Rule {
     Fine,
     Breaks(Refusal),
 }
 
 // A word's two times, in seconds: they travel together.
-#[derive(Drop)]
+#[derive(Clone, Copy)]
 pub struct Times {
     pub start: f64,
     pub end: f64,
 }
 
 // Where the next word starts, in seconds, or that there is none (Rust's `Option<f64>`).
-#[derive(Drop)]
+#[derive(Clone, Copy)]
 pub enum NextStart {
     Starts(f64),
     NoNext,
 }
 
 // Where a word's sound ends, in seconds, or that there is none (Rust's `Option<f64>`).
-#[derive(Drop)]
+#[derive(Clone, Copy)]
 pub enum SoundEnd {
     Ends(f64),
     NoSound,

@@ -89,6 +89,6 @@ module _ (keys : List ℕ) (len n i rest : ℕ) (room : i + n ≤ rest) (inside 
   unfolding goes_on
   goes-behind e f g = rw (← e, f) g
 
-  pub goes_on : {t : Bool} → t ≡ is_loop n i (held_keys (i + n) rest len keys) → t ≡ false → i + n + (rest - rest) ≡ goes_on n i (held_keys (i + n) rest len keys)
+  pub goes_on_lem : {t : Bool} → t ≡ is_loop n i (held_keys (i + n) rest len keys) → t ≡ false → i + n + (rest - rest) ≡ goes_on n i (held_keys (i + n) rest len keys)
   unfolding goes_on
-  goes_on e f = rw (← e, f) (omega arith)
+  goes_on_lem e f = rw (← e, f) (omega arith)

@@ -11,12 +11,12 @@ pub clear-requires : goal.clear-requires
 clear-requires c =
     let pre = c.requires in (
       (
-        c.passes-len.auto.0 ∙ pre.0 ∙ sym c.passes-len.auto.1.1.1.1.0,
+        c.passes-len.auto.starts ∙ pre.0 ∙ sym c.passes-len.auto.keys,
         (
-          c.passes-len.auto.1.0 ∙ pre.1.0 ∙ sym c.passes-len.auto.1.1.1.1.0,
+          c.passes-len.auto.ends ∙ pre.1.0 ∙ sym c.passes-len.auto.keys,
           (
-            c.passes-len.auto.1.1.0 ∙ pre.1.1.0 ∙ sym c.passes-len.auto.1.1.1.1.0,
-            (c.passes-len.auto.1.1.1.0 ∙ pre.1.1.1.0 ∙ sym c.passes-len.auto.1.1.1.1.0, refl),
+            c.passes-len.auto.letters ∙ pre.1.1.0 ∙ sym c.passes-len.auto.keys,
+            (c.passes-len.auto.units ∙ pre.1.1.1.0 ∙ sym c.passes-len.auto.keys, refl),
           ),
         ),
       ),
@@ -26,4 +26,4 @@ clear-requires c =
 pub returns : goal.returns
 returns c =
     collapsing _ _ _ _ _ c.passes-len.ensures.0 c.clear.ensures (omega arith)
-    c.passes-len.auto.1.1.1.1.0 (c.clear.auto.1.1.1.1.0 ∙ c.passes-len.auto.1.1.1.1.0)
+    c.passes-len.auto.keys (c.clear.auto.keys ∙ c.passes-len.auto.keys)

@@ -2,7 +2,6 @@
 use Prim.Native.Nat.{◌-◌}
 use mathlib.Core.Path.{sym, ◌∙◌}
 use native.Mathlib.Omega.{arith}
-use borrow.Author.Tests.{not-true, not-false}
 use Rattle.loops.proofs.Held.{copies-first, copies-next, copies-stop, copies-past}
 use Rattle.loops.proofs.copy.copies_end.Goals as goal
 
@@ -11,7 +10,7 @@ loop-end-init c = (omega arith, (omega arith, copies-first _ _ _ _ _ (omega arit
 
 pub returns-then-not-same : goal.returns-then-not-same
 returns-then-not-same c = (
-  sym (c.loop-end.invariant.1.1 ∙ copies-stop _ _ _ _ _ (omega arith) (omega arith) (omega arith) _ (omega arith) (omega arith) c.loop-end-test.true c.same.ensures (not-true _ c.if-not-same.true)),
+  sym (c.loop-end.invariant.1.1 ∙ copies-stop _ _ _ _ _ (omega arith) (omega arith) (omega arith) _ (omega arith) (omega arith) c.loop-end-test.true c.same.ensures c.if-not-same.true),
   (omega arith, omega arith),
 )
 
@@ -20,7 +19,7 @@ loop-end-preserved c = (
   omega arith,
   (
     omega arith,
-    c.loop-end.invariant.1.1 ∙ copies-next _ _ _ _ _ (omega arith) (omega arith) (omega arith) _ (omega arith) (omega arith) (omega arith) c.loop-end-test.true c.same.ensures (not-false _ c.if-not-same.false),
+    c.loop-end.invariant.1.1 ∙ copies-next _ _ _ _ _ (omega arith) (omega arith) (omega arith) _ (omega arith) (omega arith) (omega arith) c.loop-end-test.true c.same.ensures c.if-not-same.false,
   ),
 )
 

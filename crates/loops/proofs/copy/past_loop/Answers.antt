@@ -1,6 +1,6 @@
 -- `loops::copy::past_loop` meets its contract, by what the test for a loop found. Assumes nothing.
 use native.Mathlib.Omega.{arith}
-use Rattle.loops.proofs.Held.{goes-behind, goes_on}
+use Rattle.loops.proofs.Held.{goes-behind, goes_on_lem}
 use Rattle.loops.proofs.copy.past_loop.Goals as goal
 
 pub is_loop-requires : goal.is_loop-requires
@@ -13,4 +13,4 @@ pub returns-then-is_loop : goal.returns-then-is_loop
 returns-then-is_loop c = (goes-behind _ _ _ _ _ (omega arith) (omega arith) (omega arith) c.is_loop.ensures c.if-is_loop.true c.copies_end.ensures.0, c.copies_end.ensures.1)
 
 pub returns : goal.returns
-returns c = (goes_on _ _ _ _ _ (omega arith) (omega arith) (omega arith) c.is_loop.ensures c.if-is_loop.false, (omega arith, omega arith))
+returns c = (goes_on_lem _ _ _ _ _ (omega arith) (omega arith) (omega arith) c.is_loop.ensures c.if-is_loop.false, (omega arith, omega arith))

@@ -25,7 +25,7 @@ pass-len-requires c = (
 
 pub loop-n-preserved : goal.loop-n-preserved
 loop-n-preserved c = (
-  (c.pass-len.auto.0 ∙ c.loop-n.invariant.0.0, (c.pass-len.auto.1.0 ∙ c.loop-n.invariant.0.1.0, (c.pass-len.auto.1.1.0 ∙ c.loop-n.invariant.0.1.1.0, (c.pass-len.auto.1.1.1.0 ∙ c.loop-n.invariant.0.1.1.1.0, c.pass-len.auto.1.1.1.1.0 ∙ c.loop-n.invariant.0.1.1.1.1)))),
+  (c.pass-len.auto.starts ∙ c.loop-n.invariant.0.0, (c.pass-len.auto.ends ∙ c.loop-n.invariant.0.1.0, (c.pass-len.auto.letters ∙ c.loop-n.invariant.0.1.1.0, (c.pass-len.auto.units ∙ c.loop-n.invariant.0.1.1.1.0, c.pass-len.auto.keys ∙ c.loop-n.invariant.0.1.1.1.1)))),
   (
     omega arith,
     (omega arith, (omega arith, c.loop-n.invariant.1.1.1.1 ∙ passes-next _ _ _ (omega arith) c.pass-len.ensures.0)),

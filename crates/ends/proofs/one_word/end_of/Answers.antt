@@ -1,0 +1,15 @@
+-- `ends::one_word::end_of` meets its contract. Assumes nothing.
+use Prim.Native.Nat.{min, ◌^◌}
+use mathlib.Core.Path.{ap, ◌∙◌}
+use native.Mathlib.Omega.{arith}
+use lib.Ieee.{Float}
+use Rattle.base.specs.Whole.{to_nat}
+use Rattle.frames.specs.Frames.{frame_at}
+use Rattle.ends.proofs.EndOf.{end_of_is}
+use Rattle.ends.proofs.one_word.end_of.Goals as goal
+
+pub returns : goal.returns
+returns c =
+    end_of_is _ _ (omega arith) _ _ _ c.frame_index-lo.ensures
+    (c.least-hi.ensures ∙ ap (min _) (c.frame_index.ensures ∙ ap (λ (x : Float). min (to_nat (frame_at x)) (2 ^ 40)) c.reach.ensures))
+    c.last_loud-past.ensures.0 c.sound_end.ensures c.or_duration.ensures c.trim.ensures

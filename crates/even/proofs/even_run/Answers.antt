@@ -1,0 +1,7 @@
+-- `even::even_run` meets its contract. Assumes nothing.
+use Rattle.even.proofs.Runs.{run_is}
+use Rattle.even.proofs.even_run.Goals as goal
+
+pub returns : goal.returns
+returns c =
+    run_is _ _ _ _ c.share.ensures c.sum-total.ensures

@@ -1,0 +1,16 @@
+-- `tally::loud_count` meets its contract: what is left of the loop, from where it stands, gives the whole. Assumes nothing.
+use Prim.Native.Nat.{◌-◌}
+use mathlib.Core.Path.{refl, sym, ◌∙◌}
+use native.Mathlib.Omega.{arith}
+use Rattle.base.proofs.Loops.{each_next, each-done}
+use Rattle.tally.specs.Parts.{loud_between}
+use Rattle.tally.proofs.loud_count.Goals as goal
+
+pub loop-k-init : goal.loop-k-init
+loop-k-init c = (omega arith, (omega arith, unfold loud_between in refl))
+
+pub loop-k-preserved : goal.loop-k-preserved
+loop-k-preserved c = (omega arith, (omega arith, c.loop-k.invariant.1.1 ∙ each_next _ _ _ c.loop-k-test.true c.counted-n.ensures.0))
+
+pub returns : goal.returns
+returns c = (sym (c.loop-k.invariant.1.1 ∙ each-done _ _ _ _ c.loop-k-test.false), c.loop-k.invariant.1.0)
