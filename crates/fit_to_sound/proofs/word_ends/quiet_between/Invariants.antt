@@ -1,0 +1,15 @@
+use Prim.Native.Nat.{◌-◌, ◌<◌}
+use mathlib.Core.Path.{◌≡◌}
+use lib.IntN.{pos}
+use Rattle.base.specs.Loop.{on, run as run_turns}
+use Rattle.envelope.specs.Envelope.{loud_row}
+use Rattle.fit_to_sound.specs.FitToSound.{quiet_turn, quiet_between}
+use Rattle.fit_to_sound.proofs.Silence.{running}
+use Rattle.fit_to_sound.proofs.word_ends.quiet_between.Given as goal
+
+abbrev pub invariant-loop-k : goal.invariant-loop-k
+invariant-loop-k l =
+    (l.run < 15) × (quiet_between (loud_row l.floor l.levels) (pos l.lo) (pos l.hi) ≡ (run_turns (quiet_turn (loud_row l.floor l.levels)) (l.hi - l.k) (pos l.k) (on (running l.run))).met)
+
+abbrev pub decreases-loop-k : goal.decreases-loop-k
+decreases-loop-k l = l.hi - l.k
