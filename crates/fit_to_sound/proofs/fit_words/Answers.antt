@@ -6,7 +6,7 @@ use Rattle.fit_to_sound.proofs.fit_words.Goals as goal
 pub even_words-requires-2 : goal.even_words-requires-2
 even_words-requires-2 c =
     still_alike (c.even_words.auto.starts ∙ c.move_to_rise.auto.starts ∙ c.put_in_order.auto.starts)
-    (c.settle_ends.auto.ends ∙ c.even_words.auto.ends ∙ c.clip.auto.1.0 ∙ c.move_to_rise.auto.ends ∙ c.put_in_order.auto.ends)
+    (c.settle_ends.auto.ends ∙ c.even_words.auto.ends ∙ c.clip.auto.ends ∙ c.move_to_rise.auto.ends ∙ c.put_in_order.auto.ends)
     c.requires
 
 pub returns : goal.returns

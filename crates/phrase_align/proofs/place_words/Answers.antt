@@ -6,9 +6,9 @@ use Rattle.phrase_align.proofs.place_words.Goals as goal
 
 pub clear-requires : goal.clear-requires
 clear-requires c =
-    let k = c.place_spans-at.auto.starts in
+    let k = c.place_spans-at.auto in
     let p = c.requires.0 in
-    ((k.0 ∙ p.0, (k.1.0 ∙ p.1.0, (p.1.1.0, (p.1.1.1.0, refl)))), le_trans c.place_spans-at.ensures.1 (le_of_eq p.1.1.0))
+    ((k.starts ∙ p.0, (k.ends ∙ p.1.0, (p.1.1.0, (p.1.1.1.0, refl)))), le_trans c.place_spans-at.ensures.1 (le_of_eq p.1.1.0))
 
 pub returns : goal.returns
 returns c =
