@@ -1,0 +1,23 @@
+-- `fit_file::each_phrase::fit_phrases` meets its contract: the phrases left from p give what all of them give. Assumes nothing.
+use Prim.Native.Nat.{◌-◌}
+use mathlib.Core.Path.{refl, sym, ◌∙◌}
+use Rattle.base.proofs.Loops.{each_start, each_next, each-done}
+use Rattle.fit_file.specs.FitFile.{fit_phrase, fit_file}
+use native.Mathlib.Omega.{arith}
+use Rattle.fit_file.proofs.each_phrase.fit_phrases.Goals as goal
+
+pub loop-p-init : goal.loop-p-init
+loop-p-init c = unfold fit_file in (refl, (refl, (refl, (refl, (refl, each_start _ _ _)))))
+
+pub overflow_add-p : goal.overflow_add-p
+overflow_add-p c =
+    omega (arith, c.loop-p-test.true, c.requires.1.1.1.1.1.1.1.1.1)
+
+pub loop-p-preserved : goal.loop-p-preserved
+loop-p-preserved c = (
+  omega arith,
+  (omega arith, (omega arith, (omega arith, (omega arith, c.loop-p.invariant.1.1.1.1.1 ∙ each_next _ _ _ (omega arith) c.fit_phrase.ensures)))),
+)
+
+pub returns : goal.returns
+returns c = sym (c.loop-p.invariant.1.1.1.1.1 ∙ each-done _ _ _ _ (omega arith))
