@@ -1,0 +1,6 @@
+-- `c_api::qiluvrait_snap_onsets` meets its contract: what the stage answers and leaves. Assumes nothing.
+use Rattle.c_api.proofs.Replies.{reply-made}
+use Rattle.c_api.proofs.qiluvrait_snap_onsets.Goals as goal
+
+pub returns : goal.returns
+returns c = reply-made _ c.moved.ensures c.snap_onsets-answer.ensures
