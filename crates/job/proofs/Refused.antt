@@ -93,5 +93,5 @@ module _ (file : List ℕ) where
       let ts = in_order (run_applies given) in
       let same : None ts → None ts = λ k. k in (
         laid_out file l ∙ refused-text n (contents file).spans (job_run file).answer _ _ _ _ _ h,
-        (judged {A = ℕ} {ts = ts} 0 (same, same) (listed l) refl).refused-among n (first_says {A = ℕ} 0 n ts ((refused-exactly given n).1 h)),
+        (judged {A = ℕ} {numbers = 4 ∷ 1 ∷ 2 ∷ []} {ts = ts} 0 (same, same) (listed l) refl).refused-among n (first_says {A = ℕ} 0 n ts ((refused-exactly given n).1 h)),
       )

@@ -1,0 +1,23 @@
+-- `job::print` meets its contract: by what the answer is. Assumes nothing.
+use Rattle.job.proofs.Printing.{refused-fits, pieces-fit, words-fit, refused-written, accepted-written}
+use Rattle.job.proofs.print.Goals as goal
+
+pub put_refused-requires : goal.put_refused-requires
+put_refused-requires c =
+    refused-fits _ _ _ _ _ _ _ c.requires c.in-Refused.is
+
+pub put_pieces-pieces-requires : goal.put_pieces-pieces-requires
+put_pieces-pieces-requires c =
+    pieces-fit _ _ _ _ _ _ _ c.requires _ c.in-Accepted.is
+
+pub put_words-requires : goal.put_words-requires
+put_words-requires c =
+    words-fit _ _ _ _ _ _ _ c.requires _ c.in-Accepted.is c.put_pieces-pieces.ensures.1 c.put_pieces-pieces.auto.out
+
+pub returns-in-Refused : goal.returns-in-Refused
+returns-in-Refused c =
+    refused-written _ _ _ _ _ _ _ c.requires _ c.in-Refused.is c.number.ensures c.put_refused.ensures
+
+pub returns-in-Accepted : goal.returns-in-Accepted
+returns-in-Accepted c =
+    accepted-written _ _ _ _ _ _ _ c.requires _ _ c.in-Accepted.is c.put_pieces-pieces.ensures c.put_words.ensures
