@@ -4,9 +4,12 @@
 //     K AAAAAAAAAAAAAAAA BBBBBBBBBBBBBBBB RRRRRRRRRRRRRRRR
 #![tactic(auto)]
 
-ghost use Rattle.std.specs.Prelude.{◌≡◌, ◌+◌, ◌≤◌};
+ghost use Rattle.std.specs.Prelude.{◌≡◌, ◌+◌, ◌<◌, ◌≤◌, take, IfOk};
 ghost use Rattle.std.specs.Float.{binary64};
 ghost use Rattle.std.specs.Float.Ieee.{nan_bits};
+ghost use Rattle.std.specs.Io.KnownBytes.{Consumes, IsAtEnd};
+
+use std::io::{self, Read};
 
 // The places of a tally: one for each kind of row, at most 11, and the last for what is no row.
 pub const PLACES: usize = 12;
@@ -110,6 +113,25 @@ pub fn set_levels(levels: &mut [f64; 64], loud: u64) {
 // Whether the row has spaces before its numbers and a line end after them.
 pub fn is_spaced(row: &[u8; 53]) -> bool {
     row[1] == b' ' && row[18] == b' ' && row[35] == b' ' && row[52] == b'\n'
+}
+
+// Reads until the row is full or the input ends, and answers how many bytes it put at the row's
+// start.
+pub fn read_row<R: Read>(input: &mut R, row: &mut [u8; 53]) -> io::Result<usize>
+    ensures bound { IfOk result (λ n. n ≤ 53) }
+    ensures bytes { IfOk result
+        (λ n. Consumes (R.remaining input.old) (R.remaining input.new) (take n row.new)) }
+    ensures end { IfOk result (λ n. n < 53 → IsAtEnd (R.remaining input.new)) }
+{
+    let mut done = 0;
+    while done < row.len() {
+        let n = input.read(&mut row[done..])?;
+        if n == 0 {
+            break;
+        }
+        done += n;
+    }
+    Ok(done)
 }
 
 // Adds one at a place of a tally.

@@ -34,7 +34,7 @@
 
 ghost use Rattle.std.specs.Prelude.{◌≤◌, length};
 
-use libc::{STDIN_FILENO, STDOUT_FILENO};
+use std::io::{self, Read};
 
 // A frame above this level is loud.
 const FLOOR: f64 = 0.5;
@@ -437,66 +437,73 @@ fn judge(row: &[u8; 53], compared: &mut [u64; 12], wrong: &mut [u64; 12]) {
 }
 
 // Reads one row and judges it; answers whether to go on.
-fn take_row(compared: &mut [u64; 12], wrong: &mut [u64; 12]) -> bool {
+fn take_row<R: Read>(
+    input: &mut R,
+    compared: &mut [u64; 12],
+    wrong: &mut [u64; 12],
+) -> io::Result<bool> {
     let mut row = [0u8; 53];
-    let n = io::read_full(STDIN_FILENO, &mut row);
+    let n = vector_rows::read_row(input, &mut row)?;
     if n == 0 {
-        return false;
+        return Ok(false);
     }
     if n < 53 {
         vector_rows::add(compared, vector_rows::UNREADABLE);
-        return false;
+        return Ok(false);
     }
     judge(&row, compared, wrong);
-    true
+    Ok(true)
 }
 
-// Judges every row. A proved loop has to end, and nothing says that the input does, so it counts
-// its turns down from a number that no run uses up.
-fn take_all(compared: &mut [u64; 12], wrong: &mut [u64; 12]) {
-    let mut turns = u64::MAX;
-    while turns > 0 && take_row(compared, wrong) {
-        turns -= 1;
+// Judges every row. A proved loop has to end, and nothing says that the input does, so it has so
+// many turns that no run uses them up.
+fn take_all<R: Read>(
+    input: &mut R,
+    compared: &mut [u64; 12],
+    wrong: &mut [u64; 12],
+) -> io::Result<()> {
+    for _ in 0..u64::MAX {
+        if !take_row(input, compared, wrong)? {
+            break;
+        }
     }
+    Ok(())
 }
 
 // Writes a line for one kind.
-fn print_line(name: &[u8], compared: u64, wrong: u64) {
-    io::write_all(STDOUT_FILENO, name);
-    io::print_decimal(STDOUT_FILENO, compared);
-    io::write_all(STDOUT_FILENO, b" compared, ");
-    io::print_decimal(STDOUT_FILENO, wrong);
-    io::write_all(STDOUT_FILENO, b" wrong\n");
+fn print_line(rt: &impl Print, name: &str, compared: u64, wrong: u64) -> io::Result<()> {
+    println!(rt; "{name} {compared} compared, {wrong} wrong")
 }
 
 // Writes the lines of keys, and of words with a recording.
-fn print_heard(compared: &[u64; 12], wrong: &[u64; 12]) {
-    print_line(b"loops ", compared[0], wrong[0]);
-    print_line(b"onsets ", compared[1], wrong[1]);
-    print_line(b"ends ", compared[2], wrong[2]);
-    print_line(b"tails ", compared[3], wrong[3]);
+fn print_heard(rt: &impl Print, compared: &[u64; 12], wrong: &[u64; 12]) -> io::Result<()> {
+    print_line(rt, "loops", compared[0], wrong[0])?;
+    print_line(rt, "onsets", compared[1], wrong[1])?;
+    print_line(rt, "ends", compared[2], wrong[2])?;
+    print_line(rt, "tails", compared[3], wrong[3])?;
+    Ok(())
 }
 
 // Writes the lines of words with times in digits.
-fn print_timed(compared: &[u64; 12], wrong: &[u64; 12]) {
-    print_line(b"evening ", compared[4], wrong[4]);
-    print_line(b"placing ", compared[5], wrong[5]);
+fn print_timed(rt: &impl Print, compared: &[u64; 12], wrong: &[u64; 12]) -> io::Result<()> {
+    print_line(rt, "evening", compared[4], wrong[4])?;
+    print_line(rt, "placing", compared[5], wrong[5])?;
+    Ok(())
 }
 
 // Writes the lines of the rows whose answer is wrong on purpose.
-fn print_planted(compared: &[u64; 12], wrong: &[u64; 12]) {
-    print_line(b"planted onset ", compared[6], wrong[6]);
-    print_line(b"planted evening ", compared[7], wrong[7]);
+fn print_planted(rt: &impl Print, compared: &[u64; 12], wrong: &[u64; 12]) -> io::Result<()> {
+    print_line(rt, "planted onset", compared[6], wrong[6])?;
+    print_line(rt, "planted evening", compared[7], wrong[7])?;
+    Ok(())
 }
 
-fn main() {
+fn main(rt: HostRuntime) -> io::Result<()> {
     let mut compared = [0u64; 12];
     let mut wrong = [0u64; 12];
-    take_all(&mut compared, &mut wrong);
-    print_heard(&compared, &wrong);
-    print_timed(&compared, &wrong);
-    print_planted(&compared, &wrong);
-    io::write_all(STDOUT_FILENO, b"unreadable ");
-    io::print_decimal(STDOUT_FILENO, compared[vector_rows::UNREADABLE]);
-    io::write_all(STDOUT_FILENO, b"\n");
+    take_all(&mut rt.stdin(), &mut compared, &mut wrong)?;
+    print_heard(&rt, &compared, &wrong)?;
+    print_timed(&rt, &compared, &wrong)?;
+    print_planted(&rt, &compared, &wrong)?;
+    println!(rt; "unreadable {}", compared[vector_rows::UNREADABLE])
 }

@@ -1,0 +1,14 @@
+-- `word_vectors::is_placed` is safe: the spans are no more than the places, and the front of so many is as long. Assumes nothing.
+use mathlib.Core.Path.{sym}
+use native.Mathlib.Omega.{arith}
+use lib.Seq.{length-take-le}
+use Rattle.word_vectors.proofs.is_placed.Goals as goal
+
+pub slice_bounds-is_aligned-end : goal.slice_bounds-is_aligned-end
+slice_bounds-is_aligned-end c = sym (length-take-le _ _ (omega arith))
+
+pub slice_bounds-is_aligned-end-2 : goal.slice_bounds-is_aligned-end-2
+slice_bounds-is_aligned-end-2 c = sym (length-take-le _ _ (omega arith))
+
+pub slice_bounds-is_aligned-end-3 : goal.slice_bounds-is_aligned-end-3
+slice_bounds-is_aligned-end-3 c = sym (length-take-le _ _ (omega arith))
