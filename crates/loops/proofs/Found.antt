@@ -6,7 +6,7 @@ use native.Mathlib.Omega.{arith}
 use borrow.Author.Tests.{leb-true, lt-ltb, le-ltb}
 use lib.Dec.{leb, ltb}
 use Rattle.base.specs.Loop.{each}
-use Rattle.base.specs.Words.{Words, words, count}
+use Rattle.base.specs.Words.{Words, count}
 use Rattle.base.proofs.Loops.{each_seen, each_holds}
 use Rattle.loops.specs.Loops.{max_run, min_copies, same, copies_end, drain, is_loop, Collapsed, loop_turn, pass, collapse_loops}
 use Rattle.loops.specs.Parts.{goes_on, turn_words, pass_words, loop_words}

@@ -1,5 +1,4 @@
 -- `base::clear` meets its contract: the places from `i` on that are still to be made zero. Assumes nothing.
-use Prim.Native.Nat.{◌-◌}
 use mathlib.Core.Path.{refl, sym, ◌∙◌}
 use native.Mathlib.Omega.{arith}
 use lib.ListN.{length-set}

@@ -1,5 +1,5 @@
 -- `envelope::first_frame` meets its contract: no frame passed so far is the one looked for. Assumes nothing.
-use Rattle.std.proofs.Common.{ℕ, ◌-◌, ◌<◌, ◌≤◌, sym, ◌∙◌, arith}
+use Rattle.std.proofs.Common.{ℕ, ◌<◌, ◌≤◌, sym, ◌∙◌, arith}
 use Rattle.envelope.specs.Envelope.{loud_row}
 use Rattle.envelope.proofs.Scan.{beq-is, beq-not, one_more}
 use Rattle.envelope.proofs.first_frame.Goals as goal

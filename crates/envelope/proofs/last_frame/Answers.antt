@@ -1,5 +1,5 @@
 -- `envelope::last_frame` meets its contract: no frame passed so far is loud. Assumes nothing.
-use Rattle.std.proofs.Common.{ℕ, ◌<◌, ◌≤◌, false, sym, ◌∙◌, arith}
+use Rattle.std.proofs.Common.{ℕ, ◌<◌, ◌≤◌, sym, ◌∙◌, arith}
 use Rattle.envelope.specs.Envelope.{loud_row}
 use Rattle.envelope.proofs.Scan.{one_less}
 use Rattle.envelope.proofs.last_frame.Goals as goal

@@ -1,6 +1,5 @@
 -- `even::even_words` meets its contract: the turns that are left give what all of them give. Assumes nothing.
 use borrow.Author.Rules.{rules}
-use Prim.Native.Nat.{◌-◌}
 use mathlib.Core.Path.{refl, sym, ◌∙◌}
 use native.Mathlib.Omega.{arith}
 use Rattle.even.proofs.Turns.{turns-start, turns_next, turns-done}

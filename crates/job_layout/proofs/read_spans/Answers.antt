@@ -3,7 +3,6 @@ use mathlib.Core.Path.{refl}
 use Rattle.job_layout.proofs.Filling.{spans-alike, fill_none, fill-next, fill-all}
 use Rattle.job_layout.proofs.Bytes.{at_byte}
 use Rattle.job_layout.specs.Layout.{f64_at, u32_at, spans_from, column}
-use Prim.Native.Nat.{◌-◌}
 use native.Mathlib.Omega.{arith}
 use Rattle.job_layout.proofs.read_spans.Goals as goal
 

@@ -4,7 +4,6 @@ use Rattle.base.proofs.Cleared.{words-alike}
 use Rattle.job_layout.proofs.Filling.{fill_none, fill-next, fill-all}
 use Rattle.job_layout.proofs.Bytes.{at_byte}
 use Rattle.job_layout.specs.Layout.{f64_at, u32_at, words_from, column}
-use Prim.Native.Nat.{◌-◌}
 use native.Mathlib.Omega.{arith}
 use Rattle.job_layout.proofs.read_words.Goals as goal
 

@@ -1,7 +1,6 @@
 -- `job_text::put_pieces` meets its contract: after i turns the lines of the first i pieces are written, with 64 bytes for each at the most. Assumes nothing.
 use Rattle.job_text.proofs.Writing.{pieces_none, pieces-next, pieces-done}
 use mathlib.Core.Path.{refl}
-use Prim.Native.Nat.{◌-◌}
 use native.Mathlib.Omega.{arith}
 use Rattle.job_text.proofs.put_pieces.Goals as goal
 

@@ -1,6 +1,5 @@
 -- `job_text::put_text` meets its contract: byte for byte; after i turns the first i bytes stand from place `at` on. Assumes nothing.
 use native.Mathlib.Omega.{arith}
-use Prim.Native.Nat.{◌-◌}
 use mathlib.Core.Path.{refl}
 use lib.ListN.{length-set}
 use Rattle.job_text.proofs.Writing.{copied_none, copied_next, copied_all}

@@ -1,7 +1,6 @@
 -- `job_text::put_words` meets its contract: after i turns the lines of the first i words are written, with 64 bytes for each at the most. Assumes nothing.
 use Rattle.job_text.proofs.Writing.{words-none, words-next, words-done}
 use mathlib.Core.Path.{refl}
-use Prim.Native.Nat.{◌-◌}
 use native.Mathlib.Omega.{arith}
 use Rattle.job_text.proofs.put_words.Goals as goal
 

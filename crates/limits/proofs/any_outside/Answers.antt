@@ -1,5 +1,4 @@
 -- `limits::any_outside` meets its contract: what is left of the list decides. Assumes nothing.
-use Prim.Native.Nat.{◌-◌}
 use mathlib.Core.Path.{refl, sym, ◌∙◌}
 use borrow.Author.Rules.{rules}
 use Rattle.limits.proofs.Any.{any_next, any-stop, any-done, below-outside, above-outside, not-outside}

@@ -1,9 +1,7 @@
 -- `limits::bad_times` meets its contract: what is left of the list decides. Assumes nothing.
-use Prim.Native.Nat.{◌-◌}
 use mathlib.Core.Path.{refl, sym, ◌∙◌}
 use lib.Ieee.{nan}
 use borrow.Author.Rules.{rules}
-use Rattle.limits.specs.Limits.{bad_time}
 use Rattle.limits.proofs.Any.{any_next, any-stop, any-done}
 use Rattle.limits.proofs.bad_times.Goals as goal
 

@@ -1,9 +1,7 @@
 -- `share::share` meets its contract: the words that are left, on the times as they stand, give what all of them give. Assumes nothing.
 use borrow.Author.Rules.{rules}
-use Prim.Native.Nat.{◌-◌}
 use mathlib.Core.Path.{refl, sym, ap, ◌∙◌}
 use native.Mathlib.Omega.{arith}
-use Rattle.base.specs.Words.{edges}
 use Rattle.base.proofs.Loops.{each_start, each_next, each-done}
 use Rattle.share.specs.Share as shares
 use Rattle.share.specs.Share.{Sharing}

@@ -1,5 +1,5 @@
 -- `share::total` meets its contract: what is left of the sum gives the whole, and the sum so far is small. Assumes nothing.
-use Prim.Native.Nat.{ℕ, ◌-◌, ◌^◌}
+use Prim.Native.Nat.{ℕ, ◌^◌}
 use mathlib.Core.Path.{refl, sym, ap, ◌∙◌}
 use native.Mathlib.Omega.{arith}
 use lib.Dec.{le→leb}

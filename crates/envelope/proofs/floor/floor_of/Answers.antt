@@ -1,5 +1,5 @@
 -- `envelope::floor::floor_of` meets its contract: what is left of the maximum, from where the loop stands, gives the whole. Assumes nothing.
-use Rattle.std.proofs.Common.{◌-◌, sym, refl, ap, ◌∙◌, rules}
+use Rattle.std.proofs.Common.{sym, refl, ap, ◌∙◌, rules}
 use lib.Ieee.{nan, binary64, mul}
 use Rattle.base.proofs.Loops.{fold_next, fold_done}
 use Rattle.envelope.specs.Envelope.{peak, floor, hundredth}

@@ -1,5 +1,5 @@
 -- Four frames a turn. Invariant: what is left of the stores, from where the loop stands, gives the whole. Assumes nothing.
-use Rattle.std.proofs.Common.{◌-◌, refl, ◌∙◌, arith}
+use Rattle.std.proofs.Common.{refl, ◌∙◌, arith}
 use Rattle.base.proofs.Loops.{each_start, each_after}
 use Rattle.envelope.proofs.level.fill_fours.Goals as goal
 

@@ -1,5 +1,5 @@
 -- `envelope::level::fill_rest` meets its contract: what is left of the stores, from where the loop stands, gives the whole. Assumes nothing.
-use Rattle.std.proofs.Common.{◌-◌, set, sym, refl, ap, ◌∙◌, length-set}
+use Rattle.std.proofs.Common.{set, sym, refl, ap, ◌∙◌, length-set}
 use Rattle.base.proofs.Loops.{each_next, each-done}
 use Rattle.envelope.specs.Envelope.{level}
 use Rattle.envelope.proofs.Places.{part-frame}

@@ -1,5 +1,5 @@
 -- The search for a NaN. Invariant: where none was met, no sample before i is one. Assumes nothing.
-use Rattle.std.proofs.Common.{◌-◌, arith}
+use Rattle.std.proofs.Common.{arith}
 use Rattle.envelope.proofs.Fours.{clean-starts, clean-next, clean-done}
 use Rattle.envelope.proofs.level.no_nan.Goals as goal
 

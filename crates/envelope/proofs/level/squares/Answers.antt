@@ -1,5 +1,5 @@
 -- `envelope::level::squares` meets its contract: what is left of the sum, from where the loop stands, gives the whole. Assumes nothing.
-use Rattle.std.proofs.Common.{◌-◌, sym, refl, ◌∙◌, arith, rules}
+use Rattle.std.proofs.Common.{sym, refl, ◌∙◌, rules}
 use lib.Ieee.{nan}
 use Rattle.base.proofs.Loops.{fold_next, fold_done}
 use Rattle.envelope.specs.Envelope.{squares}

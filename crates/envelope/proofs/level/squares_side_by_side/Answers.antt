@@ -1,5 +1,5 @@
 -- Four sums side by side. Invariant: what is left of each, from where the loop stands, gives the whole. Assumes nothing.
-use Rattle.std.proofs.Common.{◌+◌, ◌-◌, arith, rules}
+use Rattle.std.proofs.Common.{◌+◌, arith, rules}
 use Rattle.envelope.proofs.Fours.{left-starts, left-next, left-done}
 use Rattle.envelope.proofs.level.squares_side_by_side.Goals as goal
 

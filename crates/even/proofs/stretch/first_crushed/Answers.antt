@@ -1,5 +1,4 @@
 -- `even::stretch::first_crushed` meets its contract: what is left of the search finds what the whole finds. Assumes nothing.
-use Prim.Native.Nat.{◌-◌}
 use mathlib.Core.Path.{refl, sym, ◌∙◌}
 use native.Mathlib.Omega.{arith}
 use Rattle.base.proofs.Loops.{down-next, down-stop, down-done}

@@ -1,5 +1,4 @@
 -- `even::stretch::grown` meets its contract: what is left of the search finds what the whole finds. Assumes nothing.
-use Prim.Native.Nat.{◌-◌}
 use mathlib.Core.Path.{refl, sym, ◌∙◌}
 use native.Mathlib.Omega.{arith}
 use Rattle.base.proofs.Loops.{up_next, up-stop, up_done}

@@ -1,5 +1,4 @@
 -- `loops::copy::copies_end` meets its contract: the search that stands at `end` ends where the whole search does. Assumes nothing.
-use Prim.Native.Nat.{◌-◌}
 use mathlib.Core.Path.{sym, ◌∙◌}
 use native.Mathlib.Omega.{arith}
 use Rattle.loops.proofs.Held.{copies-first, copies-next, copies-stop, copies-past}

@@ -1,5 +1,4 @@
 -- `loops::copy::same` meets its contract: what is left of the two runs decides. Assumes nothing.
-use Prim.Native.Nat.{◌-◌}
 use mathlib.Core.Path.{sym, ◌∙◌}
 use native.Mathlib.Omega.{arith}
 use Rattle.loops.proofs.Runs.{same_first, same_next, same_stop, same-done}

@@ -1,5 +1,4 @@
 -- `loops::pass::collapse_runs` meets its contract: what the pass gives that stands behind place i is what the whole pass gives. Assumes nothing.
-use Prim.Native.Nat.{◌-◌}
 use mathlib.Core.Path.{refl, sym, ◌∙◌}
 use native.Mathlib.Omega.{arith}
 use Rattle.loops.proofs.InPlace.{even-moved, after_first, after_next, after-done}

@@ -1,5 +1,4 @@
 -- `loops::pass::passes` meets its contract: the passes that are left give what all passes give. Assumes nothing.
-use Prim.Native.Nat.{◌-◌}
 use mathlib.Core.Path.{refl, sym, ◌∙◌}
 use native.Mathlib.Omega.{arith}
 use Rattle.loops.proofs.InPlace.{passes-first, passes-next, passes-done}
