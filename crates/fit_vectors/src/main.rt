@@ -20,7 +20,7 @@
 // A row is wrong where the call refuses it.
 #![tactic(auto)]
 
-use libc::{STDIN_FILENO, STDOUT_FILENO};
+use std::io::{self, Read};
 
 // The places of a tally: one for each kind of row, and the last for what is no row.
 const PLACES: usize = 8;
@@ -170,60 +170,66 @@ fn judge(row: &[u8; 53], compared: &mut [u64; 8], wrong: &mut [u64; 8]) {
 }
 
 // Reads one row and judges it; answers whether to go on.
-fn take_row(compared: &mut [u64; 8], wrong: &mut [u64; 8]) -> bool {
+fn take_row<R: Read>(
+    input: &mut R,
+    compared: &mut [u64; 8],
+    wrong: &mut [u64; 8],
+) -> io::Result<bool> {
     let mut row = [0u8; 53];
-    let n = io::read_full(STDIN_FILENO, &mut row);
+    let n = vector_rows::read_row(input, &mut row)?;
     if n == 0 {
-        return false;
+        return Ok(false);
     }
     if n < 53 {
         add(compared, UNREADABLE);
-        return false;
+        return Ok(false);
     }
     judge(&row, compared, wrong);
-    true
+    Ok(true)
 }
 
-// Judges every row. A proved loop has to end, and nothing says that the input does, so it counts
-// its turns down from a number that no run uses up.
-fn take_all(compared: &mut [u64; 8], wrong: &mut [u64; 8]) {
-    let mut turns = u64::MAX;
-    while turns > 0 && take_row(compared, wrong) {
-        turns -= 1;
+// Judges every row. A proved loop has to end, and nothing says that the input does, so it has so
+// many turns that no run uses them up.
+fn take_all<R: Read>(
+    input: &mut R,
+    compared: &mut [u64; 8],
+    wrong: &mut [u64; 8],
+) -> io::Result<()> {
+    for _ in 0..u64::MAX {
+        if !take_row(input, compared, wrong)? {
+            break;
+        }
     }
+    Ok(())
 }
 
 // Writes a line for one kind.
-fn print_line(name: &[u8], compared: u64, wrong: u64) {
-    io::write_all(STDOUT_FILENO, name);
-    io::print_decimal(STDOUT_FILENO, compared);
-    io::write_all(STDOUT_FILENO, b" compared, ");
-    io::print_decimal(STDOUT_FILENO, wrong);
-    io::write_all(STDOUT_FILENO, b" wrong\n");
+fn print_line(rt: &impl Print, name: &str, compared: u64, wrong: u64) -> io::Result<()> {
+    println!(rt; "{name} {compared} compared, {wrong} wrong")
 }
 
 // Writes the lines of last runs.
-fn print_runs(compared: &[u64; 8], wrong: &[u64; 8]) {
-    print_line(b"last run starts ", compared[0], wrong[0]);
-    print_line(b"last run ends ", compared[1], wrong[1]);
+fn print_runs(rt: &impl Print, compared: &[u64; 8], wrong: &[u64; 8]) -> io::Result<()> {
+    print_line(rt, "last run starts", compared[0], wrong[0])?;
+    print_line(rt, "last run ends", compared[1], wrong[1])?;
+    Ok(())
 }
 
 // Writes the lines of words.
-fn print_words(compared: &[u64; 8], wrong: &[u64; 8]) {
-    print_line(b"fit starts ", compared[2], wrong[2]);
-    print_line(b"fit ends ", compared[3], wrong[3]);
-    print_line(b"phrase starts ", compared[4], wrong[4]);
-    print_line(b"phrase ends ", compared[5], wrong[5]);
+fn print_words(rt: &impl Print, compared: &[u64; 8], wrong: &[u64; 8]) -> io::Result<()> {
+    print_line(rt, "fit starts", compared[2], wrong[2])?;
+    print_line(rt, "fit ends", compared[3], wrong[3])?;
+    print_line(rt, "phrase starts", compared[4], wrong[4])?;
+    print_line(rt, "phrase ends", compared[5], wrong[5])?;
+    Ok(())
 }
 
-fn main() {
+fn main(rt: HostRuntime) -> io::Result<()> {
     let mut compared = [0u64; 8];
     let mut wrong = [0u64; 8];
-    take_all(&mut compared, &mut wrong);
-    print_runs(&compared, &wrong);
-    print_words(&compared, &wrong);
-    print_line(b"planted last run ", compared[6], wrong[6]);
-    io::write_all(STDOUT_FILENO, b"unreadable ");
-    io::print_decimal(STDOUT_FILENO, compared[UNREADABLE]);
-    io::write_all(STDOUT_FILENO, b"\n");
+    take_all(&mut rt.stdin(), &mut compared, &mut wrong)?;
+    print_runs(&rt, &compared, &wrong)?;
+    print_words(&rt, &compared, &wrong)?;
+    print_line(&rt, "planted last run", compared[6], wrong[6])?;
+    println!(rt; "unreadable {}", compared[UNREADABLE])
 }
