@@ -26,7 +26,7 @@
 
 ghost use Rattle.std.specs.Prelude.{◌≤◌};
 
-use libc::{STDIN_FILENO, STDOUT_FILENO};
+use std::io::{self, Read};
 
 // The places of a tally: one for each kind of row, and the last for what is no row.
 const PLACES: usize = 5;
@@ -278,47 +278,51 @@ fn judge(row: &[u8; 53], compared: &mut [u64; 5], wrong: &mut [u64; 5]) {
 }
 
 // Reads one row and judges it; answers whether to go on.
-fn take_row(compared: &mut [u64; 5], wrong: &mut [u64; 5]) -> bool {
+fn take_row<R: Read>(
+    input: &mut R,
+    compared: &mut [u64; 5],
+    wrong: &mut [u64; 5],
+) -> io::Result<bool> {
     let mut row = [0u8; 53];
-    let n = io::read_full(STDIN_FILENO, &mut row);
+    let n = vector_rows::read_row(input, &mut row)?;
     if n == 0 {
-        return false;
+        return Ok(false);
     }
     if n < 53 {
         add(compared, UNREADABLE);
-        return false;
+        return Ok(false);
     }
     judge(&row, compared, wrong);
-    true
+    Ok(true)
 }
 
-// Judges every row. A proved loop has to end, and nothing says that the input does, so it counts
-// its turns down from a number that no run uses up.
-fn take_all(compared: &mut [u64; 5], wrong: &mut [u64; 5]) {
-    let mut turns = u64::MAX;
-    while turns > 0 && take_row(compared, wrong) {
-        turns -= 1;
+// Judges every row. A proved loop has to end, and nothing says that the input does, so it has so
+// many turns that no run uses them up.
+fn take_all<R: Read>(
+    input: &mut R,
+    compared: &mut [u64; 5],
+    wrong: &mut [u64; 5],
+) -> io::Result<()> {
+    for _ in 0..u64::MAX {
+        if !take_row(input, compared, wrong)? {
+            break;
+        }
     }
+    Ok(())
 }
 
 // Writes a line for one kind.
-fn print_line(name: &[u8], compared: u64, wrong: u64) {
-    io::write_all(STDOUT_FILENO, name);
-    io::print_decimal(STDOUT_FILENO, compared);
-    io::write_all(STDOUT_FILENO, b" compared, ");
-    io::print_decimal(STDOUT_FILENO, wrong);
-    io::write_all(STDOUT_FILENO, b" wrong\n");
+fn print_line(rt: &impl Print, name: &str, compared: u64, wrong: u64) -> io::Result<()> {
+    println!(rt; "{name} {compared} compared, {wrong} wrong")
 }
 
-fn main() {
+fn main(rt: HostRuntime) -> io::Result<()> {
     let mut compared = [0u64; 5];
     let mut wrong = [0u64; 5];
-    take_all(&mut compared, &mut wrong);
-    print_line(b"full runs in spans ", compared[0], wrong[0]);
-    print_line(b"full runs without spans ", compared[1], wrong[1]);
-    print_line(b"full runs without words ", compared[2], wrong[2]);
-    print_line(b"planted full run ", compared[3], wrong[3]);
-    io::write_all(STDOUT_FILENO, b"unreadable ");
-    io::print_decimal(STDOUT_FILENO, compared[UNREADABLE]);
-    io::write_all(STDOUT_FILENO, b"\n");
+    take_all(&mut rt.stdin(), &mut compared, &mut wrong)?;
+    print_line(&rt, "full runs in spans", compared[0], wrong[0])?;
+    print_line(&rt, "full runs without spans", compared[1], wrong[1])?;
+    print_line(&rt, "full runs without words", compared[2], wrong[2])?;
+    print_line(&rt, "planted full run", compared[3], wrong[3])?;
+    println!(rt; "unreadable {}", compared[UNREADABLE])
 }
