@@ -1,14 +1,15 @@
 -- The first refusal that applies, both ways round: it is none exactly when no test applies, and its number is n exactly when n is the first of the numbers that apply. So a call
--- that says what its tests find keeps its promise, once for all calls. Assumes nothing.
+-- that says what its tests find keeps its promise, once for all calls. And where one test alone is for a refusal, its number is given exactly when that test applies and none before
+-- it. Assumes nothing.
 use mathlib.Core.Path.{◌≡◌, refl, sym, ap, subst, ◌∙◌}
 use mathlib.Core.Bool.{Bool, true, false, true≢false}
 use mathlib.Core.Logic.{◌↔◌, ◌⊎◌, inl, inr}
-use mathlib.Core.List.{List, [], ◌∷◌, ◌++◌}
+use mathlib.Core.List.{List, [], ◌∷◌, ◌++◌, append-nil}
 use Prim.Native.Nat.{ℕ}
 use native.Mathlib.Omega.{arith}
 use Rattle.base.specs.declared.Rule.{Rule}
 use Rattle.base.specs.declared.Rule.TheVariants.{Fine, Breaks}
-use Rattle.base.specs.Refusals.{number, Test, first, None, First, Says, accepts, refuses, says_of, Among, Listed, Judged}
+use Rattle.base.specs.Refusals.{number, Test, first, None, First, Says, accepts, refuses, says_of, Among, Listed, Judged, Without}
 
 pub first-skip : (t : Test) (ts : List Test) → t.applies ≡ false → first (t ∷ ts) ≡ first ts
 unfolding first
@@ -104,3 +105,35 @@ judged {A} {within} {numbers} {ts} v w l s = record {
   refused-exactly = λ n. (λ f. s ∙ first_says v n ts f, λ h. says_first v n ts (sym s ∙ h));
   refused-among = λ n h. listed-first v numbers n ts l (sym s ∙ h);
 }
+
+-- what is said by the tests alone
+abbrev said : List Test → Says ℕ
+said ts = says_of {A = ℕ} 0 (first ts)
+
+-- no test of a list is for n, and n is found with others behind it: then none of the list applies, and n is found by the others
+without-said : (n : ℕ) (us ts : List Test) → Without n us → said (us ++ ts) ≡ refuses n → None us × (said ts ≡ refuses n)
+without-said n [] ts w h = (tt, h)
+without-said n (u ∷ us) ts w h = go u.applies refl (without-said n us ts w.1)
+  where
+    go : (b : Bool) → u.applies ≡ b → (said (us ++ ts) ≡ refuses n → None us × (said ts ≡ refuses n)) → None (u ∷ us) × (said ts ≡ refuses n)
+    go false e later = let k = later (sym (ap (says_of {A = ℕ} 0) (first-skip u (us ++ ts) e)) ∙ h) in ((e, k.0), k.1)
+    go true e later =
+        let s : ◌≡◌ {A = Says ℕ} (refuses (number u.refusal)) (refuses n) = sym (ap (says_of {A = ℕ} 0) (first-here u (us ++ ts) e)) ∙ h in
+        absurd (w.0 cc)
+
+-- ---- Where one test alone is for a refusal, its number is the first that applies exactly when that test applies and none before it does.
+pub first-exactly : (us : List Test) (t : Test) (ts : List Test) → Without (number t.refusal) us → Without (number t.refusal) ts
+    → (None us × (t.applies ≡ true)) ↔ First (number t.refusal) (us ++ t ∷ ts)
+first-exactly us t ts before after = (
+  λ h. record { before = us; test = t; after = ts; split = refl; none = h.0; applies = h.1; is = refl },
+  λ f. let k = without-said n us (t ∷ ts) before (first_says {A = ℕ} 0 n (us ++ t ∷ ts) f) in (k.0, go t.applies refl k.1),
+)
+  where
+    n : ℕ
+    n = number t.refusal
+
+    go : (b : Bool) → t.applies ≡ b → said (t ∷ ts) ≡ refuses n → t.applies ≡ true
+    go true e h = e
+    go false e h =
+        let behind = ap said (append-nil ts) ∙ sym (ap (says_of {A = ℕ} 0) (first-skip t ts e)) ∙ h in
+        apart (sym (ap (says_of {A = ℕ} 0) first-end) ∙ (without-said n ts [] after behind).1)

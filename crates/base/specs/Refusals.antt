@@ -71,6 +71,11 @@ abbrev pub Listed : List ℕ → List Test → Type 0
 Listed numbers [] = Unit {0}
 Listed numbers (t ∷ ts) = ((t.applies ≡ false) ⊎ Among (number t.refusal) numbers) × Listed numbers ts
 
+-- ---- No test of the list is for the refusal with this number.
+abbrev pub Without : ℕ → List Test → Type 0
+Without n [] = Unit {0}
+Without n (t ∷ ts) = (number t.refusal ≡ n → ⊥) × Without n ts
+
 -- ---- The promise of a call that has these tests, in their order: it accepts, with these values, exactly when all is within the limits;
 -- it refuses with n exactly when n is the first of the numbers that apply; and it has no refusals but those listed.
 pub record Judged {A : Type 0} (within : Type 0) (numbers : List ℕ) (tests : List Test) (values : A) (says : Says A) : Type 0 where

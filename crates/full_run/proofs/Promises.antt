@@ -1,16 +1,17 @@
 -- The full run in plain words: accepted exactly when words, spans and samples are within the limits and the places suffice, refused exactly with the first refusal
--- that applies; a refusal changes nothing, and refusals 7 and 8 cannot arise. By reading what the tests find. Assumes nothing.
+-- that applies; a refusal changes nothing, and refusals 7 and 8 cannot arise. Every cut that an accepted run leaves lies 1,203 frames or more beyond its piece's start. By reading
+-- what the tests find. Assumes nothing.
 use Prim.Native.Nat.{ℕ, ◌≤◌, min}
 use mathlib.Core.Bool.{false}
 use mathlib.Core.List.{List, [], ◌∷◌}
 use mathlib.Core.Logic.{◌↔◌, inl, inr}
-use mathlib.Core.Path.{◌≡◌, refl, sym, ap}
+use mathlib.Core.Path.{◌≡◌, refl, sym, ap, ◌∙◌}
 use native.Mathlib.Omega.{arith}
 use borrow.Author.Tests.{eq-eqb}
 use lib.ListN.{length}
 use lib.Ieee.{Float}
 use Rattle.base.specs.Words.{count}
-use Rattle.base.specs.Refusals.{None, First, accepts, refuses, Among, Judged, says_of, Listed}
+use Rattle.base.specs.Refusals.{None, First, Says, accepts, refuses, Among, Judged, says_of, Listed}
 use Rattle.base.specs.declared.Rule.{Rule}
 use Rattle.base.specs.declared.Rule.TheVariants.{Fine, Breaks}
 use Rattle.base.proofs.First.{apart, fine-none, none-fine, judged}
@@ -22,8 +23,9 @@ use Rattle.word_calls.specs.Calls.{of_words, of_samples, of_spans, of_places}
 use Rattle.word_calls.proofs.Within.{words-exactly, samples-exactly, spans-exactly, places-exactly}
 use Rattle.envelope.specs.Envelope.{frames, levels, floor, quiet_row}
 use Rattle.envelope.proofs.Places.{length-levels}
-use Rattle.pieces.specs.Pieces.{need, walked}
-use Rattle.pieces.proofs.Walk.{never_stuck}
+use Rattle.pieces.specs.Pieces.{need, walked, CutsApart}
+use Rattle.pieces.proofs.Walk.{never_stuck, pieces-over-apart}
+use Rattle.run_stages.specs.Stages.{run_on}
 use Rattle.full_run.specs.FullRun.{Input, run_of, run_applies, RunWithin, says, output, report_of, accepted, by_rule, full_run}
 use Rattle.full_run.specs.declared.Report.{Report}
 
@@ -125,6 +127,15 @@ module _ (i : Input) where
     go : (t : Rule) → says (by_rule t i).answer ≡ refuses n → by_rule t i ≡ output (by_rule t i).answer i.words i.phrases i.levels i.piece_starts i.piece_ends
     go Fine h = apart h
     go (Breaks why) h = refl
+
+  -- ---- Every cut of a run that is accepted lies at least 1,203 frames beyond its piece's start, whatever the samples hold.
+  pub pieces-apart : (r : Report) → says (full_run i).answer ≡ accepts r → CutsApart r.pieces (full_run i).piece_starts (full_run i).piece_ends
+  unfolding run_of run_on
+  pieces-apart r h =
+      let w = within (said-fine r h) in
+      let same : ◌≡◌ {A = Says Report} (accepts r) (accepts (report_of (floor (levels i.samples)) (run_of i))) = sym h ∙ accepted-exactly.0 w in
+      let is : r ≡ report_of (floor (levels i.samples)) (run_of i) = cc in
+      rw (is, accepted-leaves w) (pieces-over-apart (quiet_row (floor (levels i.samples)) (levels i.samples)) (length i.samples) i.piece_starts i.piece_ends)
 
   -- ---- 7 and 8 cannot arise: they are not among the numbers listed.
   pub never-7 : says (full_run i).answer ≡ refuses 7 → ⊥

@@ -1,15 +1,17 @@
--- A cut lies 1,203 to 2,000 frames beyond its piece's start, for every row of quiet frames. By two ideas: the search in frames from + 1,200 on
+-- A cut lies 1,203 to 2,000 frames beyond its piece's start, for every row of quiet frames, and 2,000 where none is quiet. By two ideas: the search in frames from + 1,200 on
 -- is the search in that part of the row alone; and a run that ends at place k of the part has at most k + 1 frames. Assumes nothing.
-use Prim.Native.Nat.{ℕ, suc, ◌+◌, ◌-◌, ◌/◌, ◌<◌, ◌≤◌}
+use Prim.Native.Nat.{ℕ, zero, suc, ◌+◌, ◌-◌, ◌/◌, ◌<◌, ◌≤◌}
 use mathlib.Core.Bool.{Bool, true, false, cond, ◌&&◌}
 use mathlib.Core.List.{List}
 use mathlib.Core.Path.{◌≡◌, refl, sym, ap, ◌∙◌}
 use native.Mathlib.Omega.{arith}
 use borrow.Author.Tests.{leb-true}
 use lib.Dec.{leb}
-use lib.ListN.{get_or, drop}
+use lib.ListN.{get_or, drop, replicate}
 use lib.Seq.{get_or-drop}
+use lib.Ieee.{Float, nan, lt, eq, le}
 use Rattle.base.specs.Loop.{each}
+use Rattle.envelope.specs.Envelope.{quiet_row}
 use Rattle.pieces.specs.Pieces.{Best, none, some, Search, longer, counted, search_turn, searched, search_frames, max_frames, min_quiet, at_best, cut}
 use Rattle.pieces.specs.Parts.{part_search, middle}
 use Rattle.base.proofs.Loops.{each_holds, each-alike}
@@ -129,3 +131,27 @@ cut-beyond row from = (cut-bounds row from).0
 
 pub cut-within : (row : List Bool) (from : ℕ) → cut row from ≤ from + 2000
 cut-within row from = (cut-bounds row from).1
+
+-- ---- "every cut lies at least 1,203 frames beyond its piece's start, also with NaN levels": whatever the levels and the floor hold
+pub cut-of-any-levels : (levels : List Float) (floor : Float) (from : ℕ) → from + 1203 ≤ cut (quiet_row floor levels) from
+cut-of-any-levels levels floor from = cut-beyond (quiet_row floor levels) from
+
+-- ---- where no frame is quiet, the cut lies 2,000 frames beyond its piece's start
+nowhere : (row : List Bool) → ((k : ℕ) → get_or row k false ≡ false) → (n k : ℕ) → each (search_turn row) n k (record { best = none; run = 0 }) ≡ record { best = none; run = 0 }
+unfolding each search_turn
+nowhere row h zero k = refl
+nowhere row h (suc n) k = rw (h k) (nowhere row h n (suc k))
+
+pub none-quiet : (row : List Bool) → ((k : ℕ) → get_or row k false ≡ false) → (from : ℕ) → cut row from ≡ from + max_frames
+unfolding cut searched
+none-quiet row h from = ap (λ (s : Search). at_best (from + max_frames) s.best) (nowhere row h search_frames (from + (max_frames - search_frames)))
+
+nan-row : (floor : Float) (n k : ℕ) → get_or (quiet_row floor (replicate n nan)) k false ≡ false
+unfolding quiet_row le lt eq
+nan-row floor zero k = refl
+nan-row floor (suc n) zero = refl
+nan-row floor (suc n) (suc k) = nan-row floor n k
+
+-- 2,001 NaN levels are cut at 2,000
+pub nan-levels-cut : (floor : Float) → cut (quiet_row floor (replicate 2001 nan)) 0 ≡ 2000
+nan-levels-cut floor = none-quiet (quiet_row floor (replicate 2001 nan)) (nan-row floor 2001) 0

@@ -1,11 +1,12 @@
 -- The checks in their order, and the call by what they find. A cut is always beyond its piece's start, so that the test of refusal 8 never applies.
 -- Assumes nothing.
-use Prim.Native.Nat.{ℕ, ◌/◌}
-use mathlib.Core.Bool.{Bool, true, false, ◌||◌}
+use Prim.Native.Nat.{ℕ, ◌/◌, ◌<◌}
+use mathlib.Core.Bool.{Bool, true, false, ◌||◌, true≢false}
 use mathlib.Core.List.{List}
-use mathlib.Core.Path.{◌≡◌, refl}
+use mathlib.Core.Logic.{◌↔◌, ◌⊎◌, inl, inr}
+use mathlib.Core.Path.{◌≡◌, refl, sym}
 use native.Mathlib.Omega.{arith}
-use borrow.Author.Tests.{ltb-false, le-ltb, eqb-true, eq-eqb, not-false}
+use borrow.Author.Tests.{ltb-true, ltb-false, lt-ltb, le-ltb, eqb-true, eq-eqb, not-false}
 use lib.Dec.{eqb, ltb}
 use lib.ListN.{length}
 use lib.Ieee.{Float}
@@ -29,6 +30,23 @@ or-first false b e = refl
 or-second : (a b : Bool) → (a || b) ≡ false → b ≡ false
 or-second true b e = absurd (let z : ◌≡◌ {A = ℕ} 0 1 = cc in omega arith)
 or-second false b e = e
+
+-- one of two lists is short of places
+pub short-exactly : (starts ends n : ℕ) → ((starts < n) ⊎ (ends < n)) ↔ ((few_places starts n || few_places ends n) ≡ true)
+short-exactly starts ends n = (there, back (ltb starts n) (ltb ends n) refl refl)
+  where
+    or-true : (b : Bool) → (b || true) ≡ true
+    or-true true = refl
+    or-true false = refl
+
+    there : (starts < n) ⊎ (ends < n) → (ltb starts n || ltb ends n) ≡ true
+    there (inl h) = rw (lt-ltb starts n h)
+    there (inr h) = rw (lt-ltb ends n h) (or-true (ltb starts n))
+
+    back : (a b : Bool) → ltb starts n ≡ a → ltb ends n ≡ b → (a || b) ≡ true → (starts < n) ⊎ (ends < n)
+    back true b p q e = inl (ltb-true starts n p)
+    back false true p q e = inr (ltb-true ends n q)
+    back false false p q e = absurd (true≢false (sym e))
 
 -- ---- What judge finds, by the results of its tests.
 module _ (levels : List Float) (floor : Float) (count starts ends : ℕ) where

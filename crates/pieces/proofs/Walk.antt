@@ -1,20 +1,20 @@
 -- The walk over the pieces. No cut is stuck, so refusal 8 never arises; there are no more turns than frames; the pieces need no more places than
--- `need` says; and their number does not depend on the sample count. By one idea: the walk adds, to the pieces so far, those that are left from
--- where it stands. Assumes nothing.
+-- `need` says; each but the last is 1,203 frames long or longer, and the next starts at its end; and their number does not depend on the sample
+-- count. By one idea: the walk adds, to the pieces so far, those that are left from where it stands. Assumes nothing.
 use Prim.Native.Nat.{ℕ, zero, suc, ◌+◌, ◌-◌, ◌*◌, ◌<◌, ◌≤◌}
 use mathlib.Core.Bool.{Bool, true, false, cond, ◌||◌}
-use mathlib.Core.List.{List, [], ◌∷◌, ◌++◌, append-nil, append_assoc}
+use mathlib.Core.List.{List, [], ◌∷◌, ◌++◌, map, append-nil, append_assoc}
 use mathlib.Core.Path.{◌≡◌, refl, sym, ap, ◌∙◌}
 use native.Mathlib.Omega.{arith}
 use native.Mathlib.Nat.{sub-zero}
 use borrow.Author.Tests.{ltb-true, ltb-false, leb-true, leb-false, lt-ltb, le-ltb, le-leb, lt-leb, ne_eqb}
 use lib.Dec.{leb, ltb}
 use lib.IntN.{ℤ, pos, suc_ℤ}
-use lib.ListN.{length}
+use lib.ListN.{length, get_or}
 use Rattle.base.specs.Loop.{Turn, on, out, run}
 use Rattle.base.proofs.Loops.{run_out}
 use Rattle.envelope.specs.Envelope.{hop}
-use Rattle.pieces.specs.Pieces.{max_frames, cut, Piece, State, push, last, piece_turn, walked, pieces, piece_count, need}
+use Rattle.pieces.specs.Pieces.{max_frames, cut, Piece, State, push, last, piece_turn, walked, pieces, piece_count, need, over, least_cut, CutsApart}
 use Rattle.pieces.proofs.Cuts.{cut-beyond}
 
 or_no : (b : Bool) {c : Bool} → c ≡ false → (b || c) ≡ b
@@ -30,6 +30,20 @@ need-more : (n less frames : ℕ) → n ≤ need less → less + 1203 ≤ frames
 unfolding need
 need-more n zero frames h l some = rw (ne_eqb frames 0 (omega arith)) (omega arith)
 need-more n (suc less) frames h l some = let k = rw (ne_eqb (suc less) 0 (omega arith)) at h in rw (ne_eqb frames 0 (omega arith)) (omega arith)
+
+-- one piece, or none, has no cut; pieces stay apart with one more before them that is long enough and ends where they start
+apart_none : (n : ℕ) (s e : List ℕ) → n ≤ 1 → CutsApart n s e
+apart_none n s e h = record { beyond = λ i l. absurd (omega (arith, h, l)); next = λ i l. absurd (omega (arith, h, l)) }
+
+apart_more : (n start end : ℕ) (s e : List ℕ) → start + least_cut * hop ≤ end → (1 ≤ n → get_or s 0 0 ≡ end) → CutsApart n s e → CutsApart (suc n) (start ∷ s) (end ∷ e)
+apart_more n start end s e long joined a = record { beyond = beyond; next = next } where
+  beyond : (i : ℕ) → i + 1 < suc n → get_or (start ∷ s) i 0 + least_cut * hop ≤ get_or (end ∷ e) i 0
+  beyond zero h = long
+  beyond (suc i) h = a.beyond i (omega (arith, h))
+
+  next : (i : ℕ) → i + 1 < suc n → get_or (start ∷ s) (i + 1) 0 ≡ get_or (end ∷ e) i 0
+  next zero h = joined (omega (arith, h))
+  next (suc i) h = let z : suc i + 1 ≡ suc (i + 1) = omega arith in rw z (a.next i (omega (arith, h)))
 
 -- ---- Where a walk stands: past all frames, with 2,000 or fewer left, or with more.
 data Place (frames from : ℕ) : Type 0 where
@@ -153,6 +167,31 @@ module _ (row : List Bool) where
           let b = cut-beyond row from in
           rw (rest-far n from h) (need-more (length (rest n (cut row from))) (length row - cut row from) (length row - from) later (omega arith) (omega arith))
 
+    -- the first of them starts there
+    rest-starts : (n from : ℕ) (s : List ℕ) → 1 ≤ length (rest n from) → get_or (map (λ (p : Piece). p.start) (rest n from) ++ s) 0 0 ≡ from * hop
+    unfolding rest
+    rest-starts zero from s some = absurd (omega (arith, some))
+    rest-starts (suc n) from s some = go (place (length row) from) where
+      go : Place (length row) from → get_or (map (λ (p : Piece). p.start) (rest (suc n) from) ++ s) 0 0 ≡ from * hop
+      go (past h) = absurd (let k = rw (rest-past (suc n) from h) at some in omega (arith, k))
+      go (near h l) = rw (rest-near n from h l)
+      go (far h) = rw (rest-far n from h)
+
+    rest-apart : (n from : ℕ) (s e : List ℕ) → CutsApart (length (rest n from)) (map (λ (p : Piece). p.start) (rest n from) ++ s) (map (λ (p : Piece). p.end) (rest n from) ++ e)
+    unfolding rest
+    rest-apart zero from s e = apart_none 0 s e (omega arith)
+    rest-apart (suc n) from s e = go (place (length row) from) (rest-apart n (cut row from) s e)
+      where
+        go : Place (length row) from
+            → CutsApart (length (rest n (cut row from))) (map (λ (p : Piece). p.start) (rest n (cut row from)) ++ s) (map (λ (p : Piece). p.end) (rest n (cut row from)) ++ e)
+            → CutsApart (length (rest (suc n) from)) (map (λ (p : Piece). p.start) (rest (suc n) from) ++ s) (map (λ (p : Piece). p.end) (rest (suc n) from) ++ e)
+        go (past h) later = rw (rest-past (suc n) from h) (apart_none 0 s e (omega arith))
+        go (near h l) later = rw (rest-near n from h l) (apart_none 1 (from * hop ∷ s) (count ∷ e) (omega arith))
+        go (far h) later =
+            let b = cut-beyond row from in
+            rw (rest-far n from h)
+            (apart_more (length (rest n (cut row from))) (from * hop) (cut row from * hop) _ _ (omega (arith, b)) (rest-starts n (cut row from) s) later)
+
     -- ---- The pieces that are left from a frame on.
     pub left : ℕ → List Piece
     left from = rest (length row - from) from
@@ -188,6 +227,11 @@ module _ (row : List Bool) where
     pub never_stuck : (walked row count).stuck ≡ false
     unfolding walked
     never_stuck = walk-free (length row) (pos 0) (at 0)
+
+    pub pieces-over-apart : (s e : List ℕ)
+        → CutsApart (length (pieces row count)) (over (map (λ (p : Piece). p.start) (pieces row count)) s) (over (map (λ (p : Piece). p.end) (pieces row count)) e)
+    unfolding left
+    pieces-over-apart s e = rw pieces-left (rest-apart (length row - 0) 0 _ _)
 
     pub fuel-suffices : (n : ℕ) → length row ≤ n
         → run (λ (k : ℤ). piece_turn row count) n (pos 0) (on (record { pieces = []; from = 0; stuck = false })) ≡ walked row count

@@ -1,5 +1,5 @@
 -- pieces.rs, and document 01's "Pieces". A `row` says which frames are quiet. Assumes nothing.
-use Rattle.std.specs.Prelude.{ℕ, ◌+◌, ◌-◌, ◌/◌, ◌*◌, ◌≤◌, ◌≡◌, Bool, true, false, cond, ◌&&◌, ◌||◌, List, [], ◌∷◌, ◌++◌, map, get_or, length, drop, leb, ltb, eqb, ℤ, pos, Float}
+use Rattle.std.specs.Prelude.{ℕ, ◌+◌, ◌-◌, ◌/◌, ◌*◌, ◌<◌, ◌≤◌, ◌≡◌, Bool, true, false, cond, ◌&&◌, ◌||◌, List, [], ◌∷◌, ◌++◌, map, get_or, length, drop, leb, ltb, eqb, ℤ, pos, Float}
 use Rattle.base.specs.Loop.{each, run, Turn, on, out}
 use Rattle.base.specs.Refusals.{number, Test, test, first, Says, accepts, refuses}
 use Rattle.base.specs.declared.Refusal.TheVariants.{Counts, Levels, Places, Cut}
@@ -143,3 +143,13 @@ by_rule (Breaks r) ps s e = output (Refused r) s e
 
 unfoldable pub pieces_call : List Float → Float → ℕ → List ℕ → List ℕ → Output
 pieces_call levels floor count s e = by_rule (first (tests levels floor count (length s) (length e))) (pieces (quiet_row floor levels) count) s e
+
+-- ---- Document 02: "every cut lies at least 1,203 frames beyond its piece's start".
+abbrev pub least_cut : ℕ
+least_cut = 1203
+
+-- ---- The same of n pieces in their places: the end of each but the last is its cut; it lies that far or further beyond the start, and there the
+-- next one starts.
+pub record CutsApart (n : ℕ) (starts ends : List ℕ) : Type 0 where
+  pub beyond : (i : ℕ) → i + 1 < n → get_or starts i 0 + least_cut * hop ≤ get_or ends i 0
+  pub next : (i : ℕ) → i + 1 < n → get_or starts (i + 1) 0 ≡ get_or ends i 0
