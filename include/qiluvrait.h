@@ -1,7 +1,7 @@
 /*
  * qiluvrait: quiet points and word times for recorded speech.
  *
- * The functions of the static library libc_api.a (`rt staticlib c_api` makes it; `tools/build-library`
+ * The functions of the static library libc_api.a (`rt lib` in crates/c_api makes it; `tools/build-library`
  * makes libqiluvrait.a and libqiluvrait.so of it), for C99 and C++ on x86-64 Linux. Each takes every value
  * of its arguments, keeps no state, reads and writes no memory but what it is lent, and may be called from
  * several threads at once. Where NaN is returned or written, its sign and payload are free.

@@ -160,12 +160,13 @@ class Command(unittest.TestCase):
         self.assertEqual(self.run_it("--job", "none/job")[0], 2)
 
     def in_a_repository(self, rt):
-        """Runs the command in a repository without target/, with this script for rt; what it printed, and what rt was asked."""
+        """Runs the command in a repository where nothing is built yet, with this script for rt; what it printed, and what rt was asked."""
         shutil.rmtree(os.path.join(self.folder, "bin"), ignore_errors=True)
         os.makedirs(os.path.join(self.folder, "bin"))
+        os.makedirs(os.path.join(self.folder, "crates", "fitlist"), exist_ok=True)
         shutil.copytree(TOOLS, os.path.join(self.folder, "tools"), ignore=shutil.ignore_patterns("tests", "__pycache__"), dirs_exist_ok=True)
         if rt is not None:
-            os.chmod(self.file("bin/rt", f"#!/bin/sh\necho \"$*\" >> asked\n{rt}\n"), 0o755)
+            os.chmod(self.file("bin/rt", f"#!/bin/sh\necho \"$*\" >> ../../asked\n{rt}\n"), 0o755)
         path = os.path.join(self.folder, "bin") + ("" if rt is None else ":/usr/bin:/bin")
         done = subprocess.run([sys.executable, "tools/wordtimes", "a.wav", "w.csv", "--out", "out"], cwd=self.folder, env={**os.environ, "PATH": path}, stdout=subprocess.PIPE, stderr=subprocess.PIPE, universal_newlines=True, check=False)
         self.assertNotIn("Traceback", done.stderr)
@@ -176,18 +177,18 @@ class Command(unittest.TestCase):
             return done.returncode, done.stdout, done.stderr, f.read().splitlines()
 
     def test_a_program_that_is_not_built(self):
-        rt = "echo 'rt: ok'\nmkdir -p target/bin\ncp fitlist target/bin/fitlist"
+        rt = "echo 'refused 5'\necho 'rt: ok' >&2\nmkdir -p out\ncp ../../fitlist out/fitlist"
         status, out, err, asked = self.in_a_repository(rt)
-        self.assertEqual((status, asked), (0, ["check fitlist"]))
+        self.assertEqual((status, asked), (0, ["run"]))
         self.assertTrue(out.startswith("1 of 1 word, 1 piece: "), out)
         said, of_rt = err.splitlines()
-        self.assertRegex(said, r"^wordtimes: the program fitlist isn't built: `rt check fitlist` proves and builds it now, once \(about .* on two cores\)$")
+        self.assertRegex(said, r"^wordtimes: the program fitlist isn't built: `rt run` in crates/fitlist proves and builds it now, once \(about .* on two cores\)$")
         self.assertEqual(of_rt, "rt: ok")
         status, _, err, asked = self.in_a_repository("exit 1")
-        self.assertEqual((status, err, asked), (0, "", ["check fitlist"]))
+        self.assertEqual((status, err, asked), (0, "", ["run"]))
 
     def test_a_program_that_is_not_proved(self):
-        for rt, said in (("exit 1", "`rt check fitlist` failed: it ended with status 1"), ("exit 0", "`rt check fitlist` left no target/bin/fitlist")):
+        for rt, said in (("exit 1", "`rt run` in crates/fitlist failed: it ended with status 1"), ("exit 0", "`rt run` in crates/fitlist left no out/fitlist")):
             status, out, err, _ = self.in_a_repository(rt)
             self.assertEqual((status, out), (2, ""))
             self.assertIn(said, err)

@@ -8,13 +8,16 @@ import unittest
 
 TOOL = os.path.join(os.path.dirname(os.path.abspath(__file__)), "..", "wrong-readers")
 CODE = "let head = read(from, table);\nlet rows = read(from, bodies);\n"
-# Where the code has the word on the left, `rt try` says what stands on the right.
+STDOUT = "one.job\ntwo.job\nrefused 5\nthree.job\n"
+# Where the code has the word on the left, `rt try` does what stands on the right; the copy has no files that checks made.
 RT = """#!/bin/sh
-[ "$*" = "try fitlist_runs" ] || exit 2
-code=crates/job_io/src/lib.rt
+[ "$*" = "try --data one.job=data/one.job --data two.job=data/two.job -- two.job one.job" ] || exit 2
+code=../job_io/src/lib.rt
+[ -f data/two.job ] && [ ! -e ../job_io/out ] || exit 2
 grep -q broken $code && { echo "rt: it does not compile" >&2; exit 2; }
-grep -q early $code && { echo 'on standard output, at byte 18, expected "x", found "y"'; exit 1; }
-exit 0
+echo "run=ended status=0" >&2
+grep -q early $code && { printf 'one.job\\ntwo.job\\nrefused 4\\nthree.job\\n'; exit 0; }
+cat stdout
 """
 
 
@@ -27,7 +30,11 @@ class WrongReaders(unittest.TestCase):
         shutil.copy(TOOL, os.path.join(self.folder, "tools"))
         self.file("crates.txt", "job_io:\n")
         self.file("crates/job_io/src/lib.rt", CODE)
-        self.file("crates/fitlist_runs/stdout", "one.job\ntwo.job\nrefused 5\nthree.job\n")
+        self.file("crates/job_io/out/kept", "")
+        self.file("crates/fitlist_runs/stdout", STDOUT)
+        self.file("crates/fitlist_runs/args", "two.job\none.job\n")
+        for job in ("one.job", "two.job"):
+            self.file(f"crates/fitlist_runs/data/{job}", "")
         self.file("bin/rt", RT)
         os.chmod(os.path.join(self.folder, "bin", "rt"), 0o755)
 

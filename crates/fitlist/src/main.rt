@@ -2,6 +2,8 @@
 // (document 01, "Tally, peak, job file").
 #![tactic(auto)]
 
-fn main() {
-    job_io::run();
+use std::io;
+
+fn main(rt: HostRuntime) -> io::Result<()> {
+    job_io::run(&rt)
 }

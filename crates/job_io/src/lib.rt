@@ -1,4 +1,4 @@
-// A job read from a descriptor, its samples a stretch at a time, of which only the levels are kept (document 01, "Tally, peak, job file").
+// A job read from a reader, its samples a stretch at a time, of which only the levels are kept (document 01, "Tally, peak, job file").
 // Nothing here decides what is printed: `job::judge` does, which is handed what came.
 #![tactic(auto)]
 
@@ -7,14 +7,15 @@ ghost use Rattle.job_io.specs.Answers.{Received, Answers};
 ghost use Rattle.job_io.specs.Parts.{heard_stretch, Heard, Follows};
 
 use job_layout::{Numbers, Plan, SAMPLE, SPAN, TABLE, WORD};
-use libc::{STDIN_FILENO, STDOUT_FILENO};
+use std::io;
+use std::io::Read;
 
 // Samples in a frame.
 const HOP: usize = 160;
 // Samples of a stretch: 100 frames.
 const STRETCH: usize = 16000;
 
-// How many bytes came, and whether C's read said then that there are no more.
+// How many bytes came, and whether the reader then gave no more.
 #[derive(Drop)]
 pub struct Got {
     pub bytes: usize,
@@ -29,14 +30,13 @@ pub struct Outcome {
     pub text: usize,
 }
 
-// Reads until all places are filled or the input ends.
-fn read(from: i32, bytes: &mut [u8]) -> Got
+// Reads until all places are filled or the input ends. A read that fails brings nothing, and counts as the end.
+fn read<R: Read>(from: &mut R, bytes: &mut [u8]) -> Got
     ensures { (result.bytes ≤ length bytes.old) × (result.ended ≡ ltb result.bytes (length bytes.old)) }
 {
     let mut done = 0;
     while done < bytes.len() {
-        let got = libc::read(from, &mut bytes[done..]);
-        let more = io::count(got, &bytes[done..]);
+        let more = from.read(&mut bytes[done..]).unwrap_or(0);
         if more == 0 {
             return Got {
                 bytes: done,
@@ -52,7 +52,7 @@ fn read(from: i32, bytes: &mut [u8]) -> Got
 }
 
 // Reads a stretch of samples and, where all its bytes came, writes their levels.
-fn hear_stretch(from: i32, bytes: &mut [u8], samples: &mut [f32], levels: &mut [f64]) -> Got
+fn hear_stretch<R: Read>(from: &mut R, bytes: &mut [u8], samples: &mut [f32], levels: &mut [f64]) -> Got
     requires { (length bytes.old ≡ 4 * length samples.old)
         × ((length samples.old ≤ 57600000) × (length samples.old / 160 ≤ length levels.old)) }
     ensures { (levels.new ≡ heard_stretch result.ended bytes.new (length samples.old) levels.old)
@@ -67,7 +67,7 @@ fn hear_stretch(from: i32, bytes: &mut [u8], samples: &mut [f32], levels: &mut [
 }
 
 // Reads `count` samples, a stretch at a time, and writes the level of each frame to its place.
-fn hear(from: i32, count: usize, bytes: &mut [u8], samples: &mut [f32], levels: &mut [f64]) -> Got
+fn hear<R: Read>(from: &mut R, count: usize, bytes: &mut [u8], samples: &mut [f32], levels: &mut [f64]) -> Got
     requires { (count ≤ 960159) × ((length levels.old ≡ count / 160) × ((64000 ≤ length bytes.old) × (16000 ≤ length samples.old))) }
     ensures { Heard count result.bytes result.ended bytes.new levels.new }
 {
@@ -99,8 +99,8 @@ fn hear(from: i32, count: usize, bytes: &mut [u8], samples: &mut [f32], levels: 
 }
 
 // Reads words, spans and samples of a job whose table holds and, where they came, a byte more.
-fn read_bodies(
-    from: i32,
+fn read_bodies<R: Read>(
+    from: &mut R,
     numbers: Numbers,
     bodies: &mut [u8],
     bytes: &mut [u8],
@@ -135,8 +135,8 @@ fn read_bodies(
 }
 
 // Reads a job as far as it decides what is printed: its table, and what the table says that follows.
-fn read_job(
-    from: i32,
+fn read_job<R: Read>(
+    from: &mut R,
     table: &mut [u8],
     bodies: &mut [u8],
     bytes: &mut [u8],
@@ -175,8 +175,8 @@ fn read_job(
 }
 
 // Reads a job, and writes what is printed for what came.
-pub fn fit(
-    from: i32,
+pub fn fit<R: Read>(
+    from: &mut R,
     table: &mut [u8],
     bodies: &mut [u8],
     bytes: &mut [u8],
@@ -200,8 +200,8 @@ pub fn fit(
     }
 }
 
-// Reads a job from a descriptor and prints what document 01 prints for it.
-pub fn run_from(from: i32) {
+// Reads a job and prints what document 01 prints for it. A write that fails is the error that is returned.
+pub fn run_from<P: Print, R: Read>(rt: &P, from: &mut R) -> io::Result<()> {
     let mut table = [0u8; 24];
     let mut bodies = [0u8; 15616];
     let mut bytes = [0u8; 64000];
@@ -218,10 +218,10 @@ pub fn run_from(from: i32) {
         &mut out,
     );
     let n = fit.text;
-    io::write_all(STDOUT_FILENO, &out[0..n]);
+    rt.write_all(&out[0..n])
 }
 
 // Reads a job from standard input and prints what document 01 prints for it.
-pub fn run() {
-    run_from(STDIN_FILENO);
+pub fn run(rt: &HostRuntime) -> io::Result<()> {
+    run_from(rt, &mut rt.stdin())
 }
