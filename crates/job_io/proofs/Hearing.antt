@@ -9,6 +9,9 @@ use lib.Dec.{ltb}
 use lib.ListN.{length, take, drop, length-drop, length-append, drop_of_length-le}
 use lib.Seq.{length-take-le, take_at, drop_at, take_all, drop-drop}
 use lib.Ieee.{Float}
+use Rattle.std.specs.Prelude.{Option}
+use Rattle.std.specs.Io.KnownBytes.{Consumes}
+use Rattle.std.proofs.KnownBytes.{Consumes-nil, Consumes-trans}
 use Rattle.base.specs.Loop.{table}
 use Rattle.base.specs.Words.{part, with_part}
 use Rattle.base.proofs.Loops.{length-table}
@@ -20,7 +23,8 @@ use Rattle.job_layout.proofs.Moved.{samples-append}
 use Rattle.job.proofs.Streaming.{levels-append}
 use Rattle.job.proofs.Places.{front_long}
 use Rattle.job_io.specs.Answers.{last_from, EndsIn}
-use Rattle.job_io.specs.Parts.{heard_stretch, Heard}
+use Rattle.job_io.specs.Parts.{heard_stretch, HeardFrom}
+use Rattle.job_io.proofs.Taking.{taken-all}
 
 samples-long : (bytes : List ℕ) (n : ℕ) → length (samples_from bytes 0 n) ≡ n
 unfolding samples_from column
@@ -38,14 +42,15 @@ stretch-fits samples places {count} {done} n k e f below h p s =
     go : (count done n k : ℕ) → n ≤ count - done → 160 * (done / 160) ≡ done → k ≤ done / 160 → n / 160 ≤ count / 160 - k
     go count done n k e f below = omega arith
 
--- ---- the levels of the first `done` samples in their places, and the last stretch in the buffer
-pub record Hearing (count done came : ℕ) (buffer : List ℕ) (before now : List Float) : Type 0 where
+-- ---- the levels of the first `done` samples in their places, and the last stretch in the buffer; what came is what the reader lost
+pub record Hearing (old mid : Option (List ℕ)) (count done came : ℕ) (buffer : List ℕ) (before now : List Float) : Type 0 where
   pub bytes : List ℕ
   pub long : length bytes ≡ 4 * done
   pub counted : came ≡ 4 * done
   pub stretches-whole : done < count → 16000 * (done / 16000) ≡ done
   pub places : now ≡ levels (samples_from bytes 0 done) ++ drop (done / 160) before
   pub last-stretch : EndsIn done bytes buffer
+  pub taken : Consumes old mid bytes
 
 pub frames-whole : (done : ℕ) → 16000 * (done / 16000) ≡ done → 160 * (done / 160) ≡ done
 frames-whole done h = omega arith
@@ -53,12 +58,12 @@ frames-whole done h = omega arith
 last-from : (done n : ℕ) → 16000 * (done / 16000) ≡ done → 0 < n → n ≤ 16000 → last_from (done + n) ≡ 4 * done
 last-from done n h l m = omega arith
 
-module _ (count : ℕ) (before : List Float) where
-  pub hearing-none : (buffer : List ℕ) → Hearing count 0 0 buffer before before
+module _ (old : Option (List ℕ)) (count : ℕ) (before : List Float) where
+  pub hearing-none : (buffer : List ℕ) → Hearing old old count 0 0 buffer before before
   unfolding samples_from column table levels
-  hearing-none buffer = record { bytes = []; long = refl; counted = refl; stretches-whole = λ h. refl; places = refl; last-stretch = refl }
+  hearing-none buffer = record { bytes = []; long = refl; counted = refl; stretches-whole = λ h. refl; places = refl; last-stretch = refl; taken = Consumes-nil old }
 
-  module _ {done came n k : ℕ} {buffer : List ℕ} {now : List Float} (h : Hearing count done came buffer before now) (more : done < count) (few : n ≡ min (count - done) 16000) (at : k ≡ done / 160)
+  module _ {mid : Option (List ℕ)} (new : Option (List ℕ)) {done came n k : ℕ} {buffer : List ℕ} {now : List Float} (h : Hearing old mid count done came buffer before now) (more : done < count) (few : n ≡ min (count - done) 16000) (at : k ≡ done / 160)
       (all : length before ≡ count / 160) where
     heard : List Float
     heard = levels (samples_from h.bytes 0 done)
@@ -80,9 +85,9 @@ module _ (count : ℕ) (before : List Float) where
 
     -- the next stretch came: its bytes are those that stand in the buffer
     hearing-more : (chunk : List ℕ) {lent after : List Float} {came' : ℕ} → length chunk ≡ 4 * n → lent ≡ levels (samples_from chunk 0 n) ++ drop (n / 160) (part k (length now) now)
-        → after ≡ with_part k (length now) now lent → came' ≡ came + 4 * n → Hearing count (done + n) came' (with_part 0 (4 * n) buffer chunk) before after
+        → after ≡ with_part k (length now) now lent → came' ≡ came + 4 * n → Consumes mid new chunk → Hearing old new count (done + n) came' (with_part 0 (4 * n) buffer chunk) before after
     unfolding heard
-    hearing-more chunk {lent} {after} l e w more-came = record {
+    hearing-more chunk {lent} {after} l e w more-came takes = record {
       bytes = h.bytes ++ chunk;
       long = length-append h.bytes chunk ∙ (let a = h.long in omega arith);
       counted = more-came ∙ (let a = h.counted in omega arith);
@@ -105,6 +110,7 @@ module _ (count : ℕ) (before : List Float) where
       last-stretch =
           rw (last-from done n (h.stretches-whole more) (omega arith) (omega arith))
           (drop_at h.bytes chunk (4 * done) h.long ∙ sym (take_at chunk (drop (4 * n - 0) (drop 0 buffer)) (4 * (done + n) - 4 * done) (l ∙ apart)));
+      taken = Consumes-trans old mid new h.bytes chunk h.taken takes;
     }
       where
         joined : heard ++ levels (samples_from chunk 0 n) ≡ levels (samples_from (h.bytes ++ chunk) 0 (done + n))
@@ -120,42 +126,49 @@ module _ (count : ℕ) (before : List Float) where
 
     pub hearing-next : {m got came' : ℕ} {ended : Bool} (chunk : List ℕ) {lent after : List Float} → m ≡ n → length chunk ≡ 4 * n → ended ≡ false → got ≤ 4 * n → ended ≡ ltb got (4 * n)
         → lent ≡ heard_stretch ended chunk m (part k (length now) now) → after ≡ with_part k (length now) now lent → came' ≡ came + got
-        → Hearing count (done + n) came' (with_part 0 (4 * n) buffer chunk) before after
+        → Consumes mid new (take got chunk) → Hearing old new count (done + n) came' (with_part 0 (4 * n) buffer chunk) before after
     unfolding heard_stretch
-    hearing-next {m} {got} {came'} {ended} chunk {lent} {after} e l goes_on no_more said is w counts =
+    hearing-next {m} {got} {came'} {ended} chunk {lent} {after} e l goes_on no_more said is w counts takes =
         let all-came = ltb-false got (4 * n) (sym said ∙ goes_on) in
         let full : got ≡ 4 * n = omega arith in
         hearing-more chunk l (is ∙ rw (goes_on, e)) w (counts ∙ ap (λ (x : ℕ). came + x) full)
+        (taken-all mid new got chunk (full ∙ sym l) takes)
 
     -- the next stretch came in part
     pub hearing-part : (got : ℕ) {came' : ℕ} {ended : Bool} (chunk buffer' : List ℕ) (ls : List Float) → length chunk ≡ 4 * n → ended ≡ true → ended ≡ ltb got (4 * n) → came' ≡ came + got
-        → Heard count came' ended buffer' ls
-    hearing-part got {came'} {ended} chunk buffer' ls l ends said counts =
+        → Consumes mid new (take got chunk) → HeardFrom old new count came' ended buffer' ls
+    hearing-part got {came'} {ended} chunk buffer' ls l ends said counts takes =
         let a = h.long in
         let c = h.counted in
         let short = ltb-true got (4 * n) (sym said ∙ ends) in
         let t = length-take-le got chunk (omega arith) in
         let fewer : came' < 4 * count = omega arith in
         record {
-          bytes = h.bytes ++ take got chunk;
-          long = length-append h.bytes (take got chunk) ∙ (omega (arith, a, c, t, counts));
-          few = omega arith;
-          ended_is = ends ∙ sym (lt-ltb came' (4 * count) fewer);
-          levels-are = λ e. absurd (true≢false (sym ends ∙ e));
-          last-stretch = λ e. absurd (true≢false (sym ends ∙ e));
+          heard = record {
+            bytes = h.bytes ++ take got chunk;
+            long = length-append h.bytes (take got chunk) ∙ (omega (arith, a, c, t, counts));
+            few = omega arith;
+            ended_is = ends ∙ sym (lt-ltb came' (4 * count) fewer);
+            levels-are = λ e. absurd (true≢false (sym ends ∙ e));
+            last-stretch = λ e. absurd (true≢false (sym ends ∙ e));
+          };
+          taken = Consumes-trans old mid new h.bytes (take got chunk) h.taken takes;
         }
 
-  pub hearing-all : {done came : ℕ} {buffer : List ℕ} {now : List Float} → Hearing count done came buffer before now → done ≤ count → count ≤ done → length before ≡ count / 160 → Heard count came false buffer now
-  hearing-all {done} {came} {buffer} {now} h l m e =
+  pub hearing-all : {mid : Option (List ℕ)} {done came : ℕ} {buffer : List ℕ} {now : List Float} → Hearing old mid count done came buffer before now → done ≤ count → count ≤ done → length before ≡ count / 160 → HeardFrom old mid count came false buffer now
+  hearing-all {mid} {done} {came} {buffer} {now} h l m e =
       let same : done ≡ count = omega arith in
       record {
-        bytes = h.bytes;
-        long = h.long ∙ sym h.counted;
-        few = (let c = h.counted in omega arith);
-        ended_is = (let c = h.counted in sym (le-ltb came (4 * count) (omega arith)));
-        levels-are = λ g.
-            h.places
-            ∙ rw (same, drop_of_length-le before {i = count / 160} (omega arith))
-            (append-nil (levels (samples_from h.bytes 0 count)));
-        last-stretch = λ g. subst (λ (x : ℕ). EndsIn x h.bytes buffer) same h.last-stretch;
+        heard = record {
+          bytes = h.bytes;
+          long = h.long ∙ sym h.counted;
+          few = (let c = h.counted in omega arith);
+          ended_is = (let c = h.counted in sym (le-ltb came (4 * count) (omega arith)));
+          levels-are = λ g.
+              h.places
+              ∙ rw (same, drop_of_length-le before {i = count / 160} (omega arith))
+              (append-nil (levels (samples_from h.bytes 0 count)));
+          last-stretch = λ g. subst (λ (x : ℕ). EndsIn x h.bytes buffer) same h.last-stretch;
+        };
+        taken = h.taken;
       }

@@ -1,6 +1,7 @@
--- What the program promises (document 01, "Tally, peak, job file"), of the bytes that stand in its places when it is done. The assumed contract of
--- C's read says how many bytes came, and nothing of which bytes; so the promise speaks of what came. Assumes nothing.
-use Rattle.std.specs.Prelude.{ℕ, ◌-◌, ◌*◌, ◌/◌, ◌≤◌, Bool, ◌≡◌, List, ltb, take, drop, Float}
+-- What the program promises (document 01, "Tally, peak, job file"), of the bytes that stand in its places when it is done. Of a file and of standard
+-- input no contract says which bytes a read brings, but only how many; so the promise speaks of what came. Assumes nothing.
+use Rattle.std.specs.Prelude.{ℕ, ◌-◌, ◌*◌, ◌/◌, ◌≤◌, Bool, ◌≡◌, List, Option, ltb, take, drop, Float}
+use Rattle.std.specs.Io.KnownBytes.{Consumes}
 use Rattle.job_layout.specs.Layout.{contents, file_size, sample_size}
 use Rattle.job.specs.Came.{Came, wanted}
 use Rattle.job.specs.Printed.{printed}
@@ -30,3 +31,9 @@ pub record Received (came : ℕ) (ended : Bool) (table bodies buffer : List ℕ)
 pub record Answers (came : ℕ) (ended : Bool) (table bodies buffer : List ℕ) (ls : List Float) (text : List ℕ) : Type 0 where
   pub received : Received came ended table bodies buffer ls
   pub prints : (file : List ℕ) → Came came table bodies ls file → text ≡ printed file
+
+-- ---- Of a reader whose bytes are known, such a file is what it lost: the first of the bytes that it had left, in order, and no others.
+pub record Taken (old new : Option (List ℕ)) (came : ℕ) (table bodies : List ℕ) (ls : List Float) : Type 0 where
+  pub file : List ℕ
+  pub parts : Came came table bodies ls file
+  pub taken : Consumes old new file

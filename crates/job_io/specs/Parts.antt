@@ -1,8 +1,9 @@
 -- What only the contracts of unchecked parts cite; a reader of the program's promise may skip it. Assumes nothing.
-use Rattle.std.specs.Prelude.{ℕ, ◌+◌, ◌*◌, ◌/◌, ◌≤◌, Bool, false, cond, ◌≡◌, List, ◌++◌, ltb, length, drop, Float}
+use Rattle.std.specs.Prelude.{ℕ, ◌+◌, ◌*◌, ◌/◌, ◌≤◌, Bool, false, cond, ◌≡◌, List, Option, ◌++◌, ltb, length, take, drop, Float}
+use Rattle.std.specs.Io.KnownBytes.{Consumes}
 use Rattle.envelope.specs.Envelope.{levels}
 use Rattle.job_layout.specs.Layout.{sample_size, samples_from}
-use Rattle.job_io.specs.Answers.{EndsIn}
+use Rattle.job_io.specs.Answers.{EndsIn, Received}
 
 -- ---- The places of levels after a stretch of n samples: where the input did not end before, the levels of the samples that stand in `bytes`.
 unfoldable pub heard_stretch : Bool → List ℕ → ℕ → List Float → List Float
@@ -27,3 +28,16 @@ pub record Follows (count came : ℕ) (ended : Bool) (bodies buffer : List ℕ) 
   pub whole-samples : length bodies + sample_size * count ≤ came → length samples ≡ sample_size * count
   pub levels-are : length bodies + sample_size * count ≤ came → ls ≡ levels (samples_from samples 0 count)
   pub last-stretch : length bodies + sample_size * count ≤ came → EndsIn count samples buffer
+
+-- ---- The same, and of a reader whose bytes are known that what came is what it lost.
+pub record HeardFrom (old new : Option (List ℕ)) (count came : ℕ) (ended : Bool) (buffer : List ℕ) (ls : List Float) : Type 0 where
+  pub heard : Heard count came ended buffer ls
+  pub taken : Consumes old new heard.bytes
+
+pub record FollowsFrom (old new : Option (List ℕ)) (count came : ℕ) (ended : Bool) (bodies buffer : List ℕ) (ls : List Float) : Type 0 where
+  pub follows : Follows count came ended bodies buffer ls
+  pub taken : Consumes old new (take came (bodies ++ (follows.samples ++ follows.more)))
+
+pub record ReceivedFrom (old new : Option (List ℕ)) (came : ℕ) (ended : Bool) (table bodies buffer : List ℕ) (ls : List Float) : Type 0 where
+  pub received : Received came ended table bodies buffer ls
+  pub taken : Consumes old new received.file

@@ -3,8 +3,9 @@
 #![tactic(auto)]
 
 ghost use Rattle.std.specs.Prelude.{◌≡◌, ◌+◌, ◌*◌, ◌/◌, ◌≤◌, ltb, length, take};
-ghost use Rattle.job_io.specs.Answers.{Received, Answers};
-ghost use Rattle.job_io.specs.Parts.{heard_stretch, Heard, Follows};
+ghost use Rattle.std.specs.Io.KnownBytes.{Consumes};
+ghost use Rattle.job_io.specs.Answers.{Answers, Taken};
+ghost use Rattle.job_io.specs.Parts.{heard_stretch, HeardFrom, FollowsFrom, ReceivedFrom};
 
 use job_layout::{Numbers, Plan, SAMPLE, SPAN, TABLE, WORD};
 use std::io;
@@ -32,7 +33,8 @@ pub struct Outcome {
 
 // Reads until all places are filled or the input ends. A read that fails brings nothing, and counts as the end.
 fn read<R: Read>(from: &mut R, bytes: &mut [u8]) -> Got
-    ensures { (result.bytes ≤ length bytes.old) × (result.ended ≡ ltb result.bytes (length bytes.old)) }
+    ensures came { (result.bytes ≤ length bytes.old) × (result.ended ≡ ltb result.bytes (length bytes.old)) }
+    ensures taken { Consumes (R.remaining from.old) (R.remaining from.new) (take result.bytes bytes.new) }
 {
     let mut done = 0;
     while done < bytes.len() {
@@ -52,11 +54,17 @@ fn read<R: Read>(from: &mut R, bytes: &mut [u8]) -> Got
 }
 
 // Reads a stretch of samples and, where all its bytes came, writes their levels.
-fn hear_stretch<R: Read>(from: &mut R, bytes: &mut [u8], samples: &mut [f32], levels: &mut [f64]) -> Got
+fn hear_stretch<R: Read>(
+    from: &mut R,
+    bytes: &mut [u8],
+    samples: &mut [f32],
+    levels: &mut [f64],
+) -> Got
     requires { (length bytes.old ≡ 4 * length samples.old)
         × ((length samples.old ≤ 57600000) × (length samples.old / 160 ≤ length levels.old)) }
-    ensures { (levels.new ≡ heard_stretch result.ended bytes.new (length samples.old) levels.old)
+    ensures heard { (levels.new ≡ heard_stretch result.ended bytes.new (length samples.old) levels.old)
         × ((result.bytes ≤ length bytes.old) × (result.ended ≡ ltb result.bytes (length bytes.old))) }
+    ensures taken { Consumes (R.remaining from.old) (R.remaining from.new) (take result.bytes bytes.new) }
 {
     let got = read(from, bytes);
     if got.ended {
@@ -67,9 +75,15 @@ fn hear_stretch<R: Read>(from: &mut R, bytes: &mut [u8], samples: &mut [f32], le
 }
 
 // Reads `count` samples, a stretch at a time, and writes the level of each frame to its place.
-fn hear<R: Read>(from: &mut R, count: usize, bytes: &mut [u8], samples: &mut [f32], levels: &mut [f64]) -> Got
+fn hear<R: Read>(
+    from: &mut R,
+    count: usize,
+    bytes: &mut [u8],
+    samples: &mut [f32],
+    levels: &mut [f64],
+) -> Got
     requires { (count ≤ 960159) × ((length levels.old ≡ count / 160) × ((64000 ≤ length bytes.old) × (16000 ≤ length samples.old))) }
-    ensures { Heard count result.bytes result.ended bytes.new levels.new }
+    ensures { HeardFrom (R.remaining from.old) (R.remaining from.new) count result.bytes result.ended bytes.new levels.new }
 {
     let mut came = 0;
     let mut done = 0;
@@ -112,7 +126,8 @@ fn read_bodies<R: Read>(
         × ((numbers.samples ≤ 960159)
         × ((length levels.old ≡ numbers.samples / 160)
         × ((64000 ≤ length bytes.old) × (16000 ≤ length samples.old))))) }
-    ensures { Follows numbers.samples result.bytes result.ended bodies.new bytes.new levels.new }
+    ensures { FollowsFrom (R.remaining from.old) (R.remaining from.new) numbers.samples result.bytes result.ended
+        bodies.new bytes.new levels.new }
 {
     let rows = read(from, bodies);
     if rows.ended {
@@ -146,7 +161,8 @@ fn read_job<R: Read>(
     requires { (length table.old ≡ 24)
         × ((15616 ≤ length bodies.old)
         × ((64000 ≤ length bytes.old) × ((16000 ≤ length samples.old) × (6000 ≤ length levels.old)))) }
-    ensures { Received result.bytes result.ended table.new bodies.new bytes.new levels.new }
+    ensures { ReceivedFrom (R.remaining from.old) (R.remaining from.new) result.bytes result.ended
+        table.new bodies.new bytes.new levels.new }
 {
     let head = read(from, table);
     if head.ended {
@@ -188,8 +204,9 @@ pub fn fit<R: Read>(
         × ((15616 ≤ length bodies.old)
         × ((64000 ≤ length bytes.old)
         × ((16000 ≤ length samples.old) × ((6000 ≤ length levels.old) × (33088 ≤ length out.old))))) }
-    ensures { Answers result.came result.ended table.new bodies.new bytes.new levels.new (take result.text out.new)
+    ensures answers { Answers result.came result.ended table.new bodies.new bytes.new levels.new (take result.text out.new)
         × (result.text ≤ length out.old) }
+    ensures taken { Taken (R.remaining from.old) (R.remaining from.new) result.came table.new bodies.new levels.new }
 {
     let got = read_job(from, table, bodies, bytes, samples, levels);
     let text = job::judge(got.bytes, table, bodies, levels, out);
