@@ -1,7 +1,7 @@
 -- What the program promises (document 01, "Tally, peak, job file"), of the bytes that stand in its places when it is done. Of a file and of standard
 -- input no contract says which bytes a read brings, but only how many; so the promise speaks of what came. Assumes nothing.
 use Rattle.std.specs.Prelude.{ℕ, ◌-◌, ◌*◌, ◌/◌, ◌≤◌, Bool, ◌≡◌, List, Option, ltb, take, drop, Float}
-use Rattle.std.specs.Io.KnownBytes.{Consumes}
+use Rattle.std.specs.Io.KnownBytes.{Consumes, Appends}
 use Rattle.job_layout.specs.Layout.{contents, file_size, sample_size}
 use Rattle.job.specs.Came.{Came, wanted}
 use Rattle.job.specs.Printed.{printed}
@@ -37,3 +37,9 @@ pub record Taken (old new : Option (List ℕ)) (came : ℕ) (table bodies : List
   pub file : List ℕ
   pub parts : Came came table bodies ls file
   pub taken : Consumes old new file
+
+-- ---- Of a reader and a writer whose bytes are known: what is written is what document 01 prints for the bytes that the reader lost, and nothing else.
+pub record Replies (old new before after : Option (List ℕ)) : Type 0 where
+  pub file : List ℕ
+  pub taken : Consumes old new file
+  pub writes : Appends before after (printed file)

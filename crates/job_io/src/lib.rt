@@ -2,14 +2,14 @@
 // Nothing here decides what is printed: `job::judge` does, which is handed what came.
 #![tactic(auto)]
 
-ghost use Rattle.std.specs.Prelude.{◌≡◌, ◌+◌, ◌*◌, ◌/◌, ◌≤◌, ltb, length, take};
+ghost use Rattle.std.specs.Prelude.{◌≡◌, ◌+◌, ◌*◌, ◌/◌, ◌≤◌, ltb, length, take, OnOk};
 ghost use Rattle.std.specs.Io.KnownBytes.{Consumes};
-ghost use Rattle.job_io.specs.Answers.{Answers, Taken};
+ghost use Rattle.job_io.specs.Answers.{Answers, Replies, Taken};
 ghost use Rattle.job_io.specs.Parts.{heard_stretch, HeardFrom, FollowsFrom, ReceivedFrom};
 
 use job_layout::{Numbers, Plan, SAMPLE, SPAN, TABLE, WORD};
 use std::io;
-use std::io::Read;
+use std::io::{Read, Write};
 
 // Samples in a frame.
 const HOP: usize = 160;
@@ -217,8 +217,10 @@ pub fn fit<R: Read>(
     }
 }
 
-// Reads a job and prints what document 01 prints for it. A write that fails is the error that is returned.
-pub fn run_from<P: Print, R: Read>(rt: &P, from: &mut R) -> io::Result<()> {
+// Reads a job and writes what document 01 prints for it. A write that fails is the error that is returned.
+pub fn reply<R: Read, W: Write>(from: &mut R, to: &mut W) -> io::Result<()>
+    ensures { OnOk result (Replies (R.remaining from.old) (R.remaining from.new) (W.contents to.old) (W.contents to.new)) }
+{
     let mut table = [0u8; 24];
     let mut bodies = [0u8; 15616];
     let mut bytes = [0u8; 64000];
@@ -235,7 +237,12 @@ pub fn run_from<P: Print, R: Read>(rt: &P, from: &mut R) -> io::Result<()> {
         &mut out,
     );
     let n = fit.text;
-    rt.write_all(&out[0..n])
+    to.write_all(&out[0..n])
+}
+
+// Reads a job and prints what document 01 prints for it.
+pub fn run_from<R: Read>(rt: &HostRuntime, from: &mut R) -> io::Result<()> {
+    reply(from, &mut rt.stdout())
 }
 
 // Reads a job from standard input and prints what document 01 prints for it.
