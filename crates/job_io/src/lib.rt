@@ -54,6 +54,7 @@ fn read<R: Read>(from: &mut R, bytes: &mut [u8]) -> Got
 }
 
 // Reads a stretch of samples and, where all its bytes came, writes their levels.
+#[tactic(auto, unfolding(crate::specs::Parts::heard_stretch))]
 fn hear_stretch<R: Read>(
     from: &mut R,
     bytes: &mut [u8],
