@@ -112,7 +112,7 @@ class Documents(unittest.TestCase):
         self.wrong("docs/LIMITS.md:5: no d::part in the code")
 
     def test_an_edit_in_both_folders(self):
-        self.edit("c", "three", "must-fail/further")
+        self.edit("c", "three", "further")
         self.wrong("docs/PROMISES.md:14: the edit three of c is in must-fail/ and in further/")
 
     def test_an_edit_that_is_gone(self):
@@ -120,7 +120,7 @@ class Documents(unittest.TestCase):
         self.wrong("docs/PROMISES.md:13: no edit four of c")
 
     def test_an_edit_named_nowhere(self):
-        self.edit("c", "four", "must-fail/further")
+        self.edit("c", "four", "further")
         self.wrong("docs/PROMISES.md:14: the edit four of c is named nowhere")
 
     def test_marks(self):
