@@ -155,7 +155,7 @@ class Messages(Tree):
             "`returns`: as printed, the two sides first differ where one has `borrow.Fn.Args.args_v {n = 0} c.differ_in_lengt",
             "`loop-i-preserved`: computed as a goal is, one side reads `mathlib.Core.Path.◌≡◌ (snap_ends (Rattle.envelope.specs",
             "`loop-i-preserved`: expected type `Prim.Native.Nat.◌<◌ (?8 c) (?7 c)`, but this has type `Prim.Native.Nat.◌≤◌ c.lo",
-            "`louder`: expected type `Prim.⊥`, but this has type `Scaled (pos t) reversed (fin s m e) (inf r)`",
+            "`louder`: expected type `⊥`, but this has type `Scaled (pos t) reversed (fin s m e) (inf r)`",
             "`returns`: `omega`: the goal does not follow from what it read. All of that holds, and the goal fails, at `c",
             "`loop-i-preserved`: list the missing equation with its arguments, or rewrite by `rw` or `simp`",
             "`returns`: give a proof of that as the last argument, `rw L t` (`rw L ?` shows it as a hole's goal), or add what is missing to the list",
