@@ -1,12 +1,12 @@
 -- The words of a phrase stay as many as they are. Assumes nothing.
 use Prim.Native.Nat.{ℕ, ◌-◌}
 use mathlib.Core.Bool.{Bool, true, false, cond}
-use mathlib.Core.Path.{◌≡◌, refl, sym, ◌∙◌}
+use mathlib.Core.Path.{◌≡◌, refl, ◌∙◌}
 use mathlib.Core.List.{List}
 use lib.Dec.{ltb}
 use lib.ListN.{length, set, length-set}
 use lib.Ieee.{Float, lt}
-use Rattle.base.specs.Words.{Edges, set_times}
+use Rattle.base.specs.Words.{Edges}
 use Rattle.base.specs.declared.Times.{Times}
 use Rattle.base.proofs.Loops.{each_keeps}
 use Rattle.base.proofs.Parts.{long, both}

@@ -1,6 +1,6 @@
 -- What is put back at a phrase's places is found there, and at no other place: the members of a phrase are distinct, and those of two phrases have
 -- none in common. Assumes nothing.
-use Prim.Native.Nat.{ℕ, zero, suc, ◌+◌, ◌<◌, ◌≤◌}
+use Prim.Native.Nat.{ℕ, zero, suc, ◌<◌, ◌≤◌}
 use mathlib.Core.Bool.{Bool, true, false}
 use mathlib.Core.Path.{◌≡◌, refl, sym, ap, ◌∙◌}
 use mathlib.Core.Logic.{inl, inr, ◌≢◌}
@@ -13,9 +13,9 @@ use lib.Dec.{eqb}
 use lib.ListN.{length, get_or, set, length-append, length-map, length-set, get_or-append}
 use lib.Seq.{get_or-append_seam, get_or-set_same, get_or-set_other}
 use lib.Ieee.{Float, nan}
-use Rattle.base.specs.Words.{Edges, edges, times_at}
+use Rattle.base.specs.Words.{Edges, times_at}
 use Rattle.base.specs.Loop.{each}
-use Rattle.base.proofs.Parts.{long, both, times-alike}
+use Rattle.base.proofs.Parts.{long, times-alike}
 use Rattle.fit_file.specs.FitFile.{member_turn, members_of, picked, picked_edges, put_back, put_edges}
 use Rattle.fit_file.specs.Parts.{AllOf, Distinct}
 use Rattle.fit_file.proofs.Members.{turn-hit, turn-miss, members-next}

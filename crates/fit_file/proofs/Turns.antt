@@ -1,14 +1,13 @@
 -- The words of one phrase: what each test of the code decides, and what is stored. Assumes nothing.
 use Prim.Native.Nat.{ℕ, ◌-◌, ◌<◌, ◌≤◌}
 use mathlib.Core.Bool.{Bool, true, false}
-use mathlib.Core.Path.{◌≡◌, refl, sym, ap, ◌∙◌}
+use mathlib.Core.Path.{◌≡◌, ◌∙◌}
 use mathlib.Core.List.{List}
-use native.Mathlib.Omega.{arith}
 use borrow.Author.Tests.{lt-ltb, le-ltb}
 use lib.ListN.{get_or, length, set}
 use lib.Ieee.{Float, nan, lt}
 use Rattle.base.specs.Floats.{◌⊕◌, ◌⊖◌}
-use Rattle.base.specs.Words.{Edges, edges, times, times_at}
+use Rattle.base.specs.Words.{Edges, edges, times}
 use Rattle.base.specs.declared.Times.{Times}
 use Rattle.js.specs.Js.{js_min, js_max}
 use Rattle.even.specs.Even.{even_out}

@@ -17,7 +17,7 @@ use Rattle.envelope.specs.Envelope.{loud_row}
 use Rattle.limits.specs.Limits.{any, time_of}
 use Rattle.limits.specs.Order.{when, also, in_order, chain}
 use Rattle.limits.specs.declared.Answer.TheVariants.{Accepted, Refused}
-use Rattle.word_calls.specs.Calls.{uneven, of_words, of_samples, of_levels, of_list, uneven_spans, many_spans, of_spans, of_places, phrases_rule, Output, output}
+use Rattle.word_calls.specs.Calls.{uneven, of_words, of_samples, of_levels, of_list, uneven_spans, many_spans, of_spans, of_places, phrases_rule, output}
 use Rattle.ends.specs.Ends.{next_start, or_duration, last_loud, sound_end}
 use Rattle.even.specs.Even.{crushed, even_turn, even_out}
 use Rattle.fit_file.specs.FitFile.{member_turn, members_of, picked, picked_edges, put_back, put_edges, inside_span, inside_turn, keep_inside, take_run, take_trailing, fit_group, fit_phrase, fit_file, duration_of, fit_file_call}

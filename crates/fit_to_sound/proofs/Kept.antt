@@ -5,7 +5,7 @@ use mathlib.Core.List.{List}
 use mathlib.Core.Path.{◌≡◌, ◌∙◌}
 use lib.Ieee.{Float, inf}
 use Rattle.base.specs.Words.{Edges}
-use Rattle.base.proofs.Parts.{long, both}
+use Rattle.base.proofs.Parts.{long}
 use Rattle.even.specs.Even.{even_out}
 use Rattle.even.proofs.Turns.{even-long}
 use Rattle.fit_to_sound.specs.FitToSound.{fit_to_sound, put_in_order, move_to_rise, clip, settle_ends}

@@ -1,12 +1,12 @@
 -- What the code makes: the tests as the definition has them, the levels in the first places, and the answer of a run. Assumes nothing.
-use Prim.Native.Nat.{ℕ, ◌-◌, ◌≤◌, min}
+use Prim.Native.Nat.{ℕ, ◌≤◌, min}
 use mathlib.Core.Path.{◌≡◌, refl, sym, ap, subst, ◌∙◌}
 use mathlib.Core.List.{List, ◌++◌}
 use native.Mathlib.Omega.{arith}
 use native.Mathlib.Nat.{sub-zero}
 use lib.ListN.{length, drop}
 use lib.Ieee.{Float}
-use Rattle.base.specs.Words.{Words, words, Spans, spans, count, part}
+use Rattle.base.specs.Words.{Words, Spans, spans, count, part}
 use Rattle.base.specs.declared.Refusal.{Refusal}
 use Rattle.base.specs.declared.Rule.{Rule}
 use Rattle.base.specs.declared.Rule.TheVariants.{Fine, Breaks}

@@ -1,7 +1,7 @@
 -- In the fit by phrase, the words of a phrase come out as they would alone: the turns of other phrases neither read nor write their places. Assumes nothing.
 use Prim.Native.Nat.{ℕ, zero, suc, ◌+◌, ◌<◌, ◌≤◌}
 use mathlib.Core.Bool.{Bool, true, false, cond}
-use mathlib.Core.Path.{◌≡◌, refl, sym, ap, ◌∙◌}
+use mathlib.Core.Path.{◌≡◌, refl, ap, ◌∙◌}
 use mathlib.Core.Logic.{◌≢◌, inl, inr}
 use mathlib.Core.List.{List}
 use native.Mathlib.Omega.{arith}
@@ -10,7 +10,7 @@ use lib.Dec.{eqb}
 use lib.ListN.{length, get_or}
 use lib.Ieee.{Float, nan}
 use Rattle.base.specs.Loop.{each}
-use Rattle.base.specs.Words.{Edges, edges, times_at}
+use Rattle.base.specs.Words.{Edges, times_at}
 use Rattle.base.specs.declared.Times.{Times}
 use Rattle.base.proofs.Parts.{long, both}
 use Rattle.fit_file.specs.FitFile.{members_of, picked, picked_edges, put_edges, fit_group, fit_phrase, fit_file}

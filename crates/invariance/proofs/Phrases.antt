@@ -11,7 +11,7 @@ use lib.Dec.{ltb}
 use lib.IntN.{ℤ}
 use lib.ListN.{length, get_or}
 use lib.Ieee.{Float, nan}
-use Rattle.base.specs.Words.{Words, words, Spans, Edges, edges, times_at, count}
+use Rattle.base.specs.Words.{Words, words, Spans, Edges, edges, times_at}
 use Rattle.base.specs.Refusals.{accepts}
 use Rattle.base.specs.declared.Times.{Times}
 use Rattle.base.proofs.Parts.{times-alike}

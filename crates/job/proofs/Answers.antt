@@ -10,7 +10,7 @@ use lib.Dec.{eqb}
 use lib.ListN.{length, drop, get_or, replicate, length-append, length-replicate, get_or-append}
 use lib.Ieee.{Float, nan}
 use Rattle.base.specs.Loop.{each}
-use Rattle.base.specs.Words.{Words, words, Spans, count, zero_f, words_in_places, in_places}
+use Rattle.base.specs.Words.{Words, Spans, count, zero_f, words_in_places, in_places}
 use Rattle.base.specs.declared.Rule.{Rule}
 use Rattle.base.specs.declared.Rule.TheVariants.{Fine, Breaks}
 use Rattle.base.proofs.Loops.{length-table}

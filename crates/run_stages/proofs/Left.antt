@@ -1,10 +1,10 @@
 -- The words that loops left stand in the first places; there the other stages run, and what they leave stands in all places. Assumes nothing.
-use Prim.Native.Nat.{ℕ, ◌≤◌, min}
-use mathlib.Core.Path.{◌≡◌, refl, sym, ap, subst, ◌∙◌}
+use Prim.Native.Nat.{ℕ, ◌≤◌}
+use mathlib.Core.Path.{◌≡◌, sym, ap, subst, ◌∙◌}
 use mathlib.Core.Bool.{Bool}
 use mathlib.Core.List.{List}
 use native.Mathlib.Omega.{arith}
-use lib.ListN.{length, get_or}
+use lib.ListN.{length}
 use lib.Ieee.{Float}
 use Rattle.base.specs.Words.{Words, words, Spans, count, part, with_part, in_places, words_in_places, zero_f}
 use Rattle.base.specs.Parts.{OneLength}
@@ -19,10 +19,9 @@ use Rattle.loops.proofs.Found.{never-more}
 use Rattle.loops.proofs.Whole.{left-even}
 use Rattle.loops.proofs.Kept.{left-letters}
 use Rattle.fit_file.specs.FitFile.{duration_of}
-use Rattle.run_stages.specs.Stages.{Settled, snapped, settled, Run, run_on}
+use Rattle.run_stages.specs.Stages.{Settled, snapped, settled, run_on}
 use Rattle.run_stages.specs.Parts.{FewLetters, Settling, Running}
 use Rattle.run_stages.proofs.Places.{places-first, places-more}
-use Rattle.run_stages.specs.declared.Outcome.{Outcome}
 
 module _ (ws : Words) (even : OneLength (count ws) ws) {left : Left} {after : Words} (made : Collapsing left ws after) where
   abbrev kept : Words

@@ -1,15 +1,14 @@
 -- The stages in a row: what each leaves is what the next takes, and the words that are left stand in the first places. Assumes nothing.
 use Prim.Native.Nat.{ℕ, ◌-◌, ◌≤◌, ◌^◌, min}
 use mathlib.Core.Path.{◌≡◌, refl, sym, ap, subst, ◌∙◌}
-use mathlib.Core.Bool.{Bool, false, cond}
+use mathlib.Core.Bool.{Bool}
 use mathlib.Core.List.{List, ◌++◌, append_assoc}
 use native.Mathlib.Omega.{arith}
 use borrow.Author.Tests.{ne_eqb}
-use lib.Dec.{eqb}
-use lib.ListN.{length, take, drop, replicate}
+use lib.ListN.{length, drop, replicate}
 use lib.Seq.{length-take-le, take_at}
 use lib.Ieee.{Float}
-use Rattle.base.specs.Words.{Words, words, Spans, Edges, edges, with_edges, count, part, with_part, in_places, words_in_places, zero_f}
+use Rattle.base.specs.Words.{Words, words, Spans, Edges, edges, with_edges, count, part, with_part, words_in_places, zero_f}
 use Rattle.base.specs.Parts.{OneLength}
 use Rattle.base.proofs.Parts.{part-long}
 use Rattle.tails.specs.Tails.{hand_back_tails}
@@ -22,7 +21,7 @@ use Rattle.phrase_align.specs.declared.Answer.TheVariants.{Accepted, Refused}
 use Rattle.fit_to_sound.specs.FitToSound.{fit_to_sound}
 use Rattle.fit_file.specs.FitFile.{fit_file}
 use Rattle.run_stages.specs.Stages.{Settled, snapped, by_phrase, as_one, settled}
-use Rattle.run_stages.specs.Parts.{Ready, Settling}
+use Rattle.run_stages.specs.Parts.{Settling}
 use Rattle.run_stages.proofs.Places.{places-all, places-first, places-back}
 
 -- ---- words whose times were moved are still ready: their lists are as long as before

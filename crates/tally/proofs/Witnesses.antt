@@ -18,7 +18,7 @@ use Rattle.limits.specs.Limits.{any, time_of}
 use Rattle.limits.specs.Order.{when, also, in_order, chain}
 use Rattle.limits.specs.declared.Answer.TheVariants.{Accepted, Refused}
 use Rattle.word_calls.specs.Calls.{uneven, of_words, of_samples, of_levels, of_list, uneven_spans, many_spans, of_spans, of_places, phrases_rule}
-use Rattle.tally.specs.Tally.{covers, cover_turn, loud_under, span_turn, span_tally, tallies, Output, output, tally_call}
+use Rattle.tally.specs.Tally.{covers, cover_turn, loud_under, span_turn, span_tally, tallies, output, tally_call}
 
 -- so many hundredths of a second
 abbrev time : ℕ → Float

@@ -1,5 +1,4 @@
 -- `ends::move_ends` meets its contract: the words left from i give what the whole list gives. Assumes nothing.
-use Prim.Native.Nat.{◌-◌}
 use mathlib.Core.Path.{refl, sym, ◌∙◌}
 use borrow.Author.Rules.{rules}
 use native.Mathlib.Omega.{arith}

@@ -2,7 +2,6 @@
 use Rattle.job.proofs.Printing.{table_same}
 use Rattle.job_layout.proofs.Filling.{fill_none, fill-next, fill-all}
 use mathlib.Core.Path.{refl, ◌∙◌}
-use Prim.Native.Nat.{◌-◌}
 use native.Mathlib.Omega.{arith}
 use Rattle.job.proofs.clear.Goals as goal
 

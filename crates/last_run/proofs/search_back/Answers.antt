@@ -1,6 +1,5 @@
 -- `last_run::search_back` meets its contract: what is left of the loop, from where the search stands, gives the whole. Assumes nothing.
 use mathlib.Core.Path.{refl}
-use mathlib.Core.Bool.{false}
 use native.Mathlib.Omega.{arith}
 use Rattle.last_run.proofs.Steps.{search-starts, search-next, search-stop, search-done}
 use Rattle.last_run.proofs.search_back.Goals as goal

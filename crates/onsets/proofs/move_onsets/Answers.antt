@@ -1,5 +1,4 @@
 -- `onsets::move_onsets` meets its contract: what is left gives what the whole gives. Assumes nothing.
-use Prim.Native.Nat.{◌-◌}
 use mathlib.Core.Path.{refl, sym, ◌∙◌}
 use native.Mathlib.Omega.{arith}
 use Rattle.base.proofs.Loops.{each_start, each_next, each-done}

@@ -1,5 +1,5 @@
 -- `peak::loudest` meets its contract: what is left of the turns, from where the loop stands, gives the whole. Assumes nothing.
-use Rattle.std.proofs.Common.{◌-◌, sym, ap, ◌∙◌, rules}
+use Rattle.std.proofs.Common.{sym, ap, ◌∙◌}
 use Rattle.base.specs.Loop.{on}
 use Rattle.base.proofs.Loops.{run-next, run-done, range-pos}
 use Rattle.js.specs.Js.{js_max}

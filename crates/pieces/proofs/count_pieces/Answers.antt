@@ -1,5 +1,4 @@
 -- The counting pass. Invariant: n, and the pieces left from `from` on, are the piece count. The measure is the frames left. Assumes nothing.
-use Prim.Native.Nat.{◌-◌}
 use native.Mathlib.Omega.{arith}
 use Rattle.pieces.proofs.Passes.{quiet-length, counting-starts, counting-next, counting-last, counting-done}
 use Rattle.pieces.proofs.count_pieces.Goals as goal

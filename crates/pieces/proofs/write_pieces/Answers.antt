@@ -1,6 +1,6 @@
 -- The writing pass. Invariant: writing the pieces left from `from` on at place n gives both lists as they are at the end, and there is room for
 -- them. The measure is the frames left. Assumes nothing.
-use Prim.Native.Nat.{ℕ, ◌-◌, ◌*◌}
+use Prim.Native.Nat.{ℕ, ◌*◌}
 use mathlib.Core.Path.{refl, ap}
 use native.Mathlib.Omega.{arith}
 use Rattle.pieces.specs.Parts.{starts_over, ends_over}

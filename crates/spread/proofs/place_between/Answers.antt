@@ -1,6 +1,5 @@
 -- `spread::place_between` meets its contract: what is left gives what the whole gives. Assumes nothing.
 use borrow.Author.Rules.{rules}
-use Prim.Native.Nat.{◌-◌}
 use mathlib.Core.Path.{refl, sym, ◌∙◌}
 use native.Mathlib.Omega.{arith}
 use Rattle.base.proofs.Loops.{each_next, each-done}

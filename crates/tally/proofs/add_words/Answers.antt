@@ -1,5 +1,4 @@
 -- `tally::add_words` meets its contract: after i words the places hold each span's sum over them. Assumes nothing.
-use Prim.Native.Nat.{◌-◌}
 use mathlib.Core.Path.{refl}
 use borrow.Author.Rules.{rules}
 use native.Mathlib.Omega.{arith}

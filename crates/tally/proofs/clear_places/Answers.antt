@@ -1,5 +1,4 @@
 -- `tally::clear_places` meets its contract: what is left of the stores, from where the loop stands, gives the whole. Assumes nothing.
-use Prim.Native.Nat.{◌-◌}
 use mathlib.Core.Path.{refl, sym, ◌∙◌}
 use native.Mathlib.Omega.{arith}
 use lib.ListN.{length-set}

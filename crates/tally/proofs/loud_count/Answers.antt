@@ -1,5 +1,4 @@
 -- `tally::loud_count` meets its contract: what is left of the loop, from where it stands, gives the whole. Assumes nothing.
-use Prim.Native.Nat.{◌-◌}
 use mathlib.Core.Path.{refl, sym, ◌∙◌}
 use native.Mathlib.Omega.{arith}
 use Rattle.base.proofs.Loops.{each_next, each-done}

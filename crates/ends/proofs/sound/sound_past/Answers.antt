@@ -1,5 +1,4 @@
 -- `ends::sound::sound_past` meets its contract: the sound goes on as long as a loud frame is near. Assumes nothing.
-use Prim.Native.Nat.{◌-◌}
 use mathlib.Core.Path.{refl}
 use native.Mathlib.Omega.{arith}
 use Rattle.ends.proofs.SoundEnds.{goes_on, stops-here, sound-over}

@@ -1,8 +1,7 @@
 -- `fit_file::each_phrase::fit_phrases` meets its contract: the phrases left from p give what all of them give. Assumes nothing.
-use Prim.Native.Nat.{◌-◌}
 use mathlib.Core.Path.{refl, sym, ◌∙◌}
 use Rattle.base.proofs.Loops.{each_start, each_next, each-done}
-use Rattle.fit_file.specs.FitFile.{fit_phrase, fit_file}
+use Rattle.fit_file.specs.FitFile.{fit_file}
 use native.Mathlib.Omega.{arith}
 use Rattle.fit_file.proofs.each_phrase.fit_phrases.Goals as goal
 

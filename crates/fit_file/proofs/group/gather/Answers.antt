@@ -1,5 +1,4 @@
 -- `fit_file::group::gather` meets its contract: the work space holds the members among the words before i. Assumes nothing.
-use Prim.Native.Nat.{◌-◌}
 use mathlib.Core.Path.{refl}
 use borrow.Author.Rules.{rules}
 use native.Mathlib.Omega.{arith}

@@ -1,5 +1,4 @@
 -- `fit_file::group::put_back` meets its contract: the places before i have their words back. Assumes nothing.
-use Prim.Native.Nat.{◌-◌}
 use mathlib.Core.Path.{refl}
 use borrow.Author.Rules.{rules}
 use native.Mathlib.Omega.{arith}

@@ -1,5 +1,4 @@
 -- `fit_file::one_phrase::keep_inside` meets its contract: the words left from i give what all of them give. Assumes nothing.
-use Prim.Native.Nat.{◌-◌}
 use mathlib.Core.Path.{refl, sym, ◌∙◌}
 use lib.ListN.{length-set}
 use Rattle.base.proofs.Loops.{each_start, each_next, each-done}

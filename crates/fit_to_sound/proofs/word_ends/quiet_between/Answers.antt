@@ -1,6 +1,5 @@
 -- `fit_to_sound::word_ends::quiet_between` meets its contract: the frames left from k give what all give. Assumes nothing.
 use native.Mathlib.Omega.{arith}
-use Prim.Native.Nat.{◌-◌}
 use Rattle.fit_to_sound.proofs.Silence.{quiet-starts, quiet_next, quiet-met, quiet-done}
 use Rattle.fit_to_sound.proofs.word_ends.quiet_between.Goals as goal
 

@@ -1,6 +1,5 @@
 -- `fit_to_sound::word_starts::move_to_rise` meets its contract: the words left from i give what the whole list gives. Assumes nothing.
 use native.Mathlib.Omega.{arith}
-use Prim.Native.Nat.{◌-◌}
 use mathlib.Core.Path.{refl, sym, ◌∙◌}
 use lib.ListN.{length-set}
 use Rattle.base.proofs.Loops.{each_start, each_next, each-done}

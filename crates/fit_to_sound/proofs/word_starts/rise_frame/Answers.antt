@@ -1,5 +1,4 @@
 -- `fit_to_sound::word_starts::rise_frame` meets its contract: the frames left from k give what all give. Assumes nothing.
-use Prim.Native.Nat.{◌-◌}
 use mathlib.Core.Path.{sym, ◌∙◌}
 use Rattle.fit_to_sound.proofs.Rise.{rise-starts, rise-next, rise-stop, rise-done}
 use Rattle.fit_to_sound.proofs.word_starts.rise_frame.Goals as goal

@@ -1,6 +1,5 @@
 -- `phrase_align::place::number_words` meets its contract: the places that are left, on the list as it stands, give what all of them give. Assumes nothing.
 use borrow.Author.Rules.{rules}
-use Prim.Native.Nat.{◌-◌}
 use mathlib.Core.Path.{refl, sym, ◌∙◌}
 use native.Mathlib.Omega.{arith}
 use Rattle.base.proofs.Parts.{filled, fill-next, fill_done}

@@ -1,6 +1,5 @@
 -- `phrase_align::place::place_spans` meets its contract: the spans that are left, on the lists as they stand, give what all of them give. Assumes nothing.
 use borrow.Author.Rules.{rules}
-use Prim.Native.Nat.{◌-◌}
 use mathlib.Core.Path.{refl, sym, ◌∙◌}
 use native.Mathlib.Omega.{arith}
 use Rattle.base.proofs.Loops.{each_start, each_next, each-done}

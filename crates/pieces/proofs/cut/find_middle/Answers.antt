@@ -1,5 +1,4 @@
 -- The search in a part. Invariant: what is left of it, from the best so far, finds what the whole finds. The measure is the frames left. Assumes nothing.
-use Prim.Native.Nat.{◌-◌}
 use native.Mathlib.Omega.{arith}
 use Rattle.pieces.proofs.CutParts.{search-starts, search-done, middle-within}
 use Rattle.pieces.proofs.cut.find_middle.Goals as goal

@@ -1,5 +1,4 @@
 -- The search backwards. Invariant: what is left of it finds what the whole finds. The measure is the frames left. Assumes nothing.
-use Prim.Native.Nat.{◌-◌}
 use mathlib.Core.Path.{refl, sym, ◌∙◌}
 use native.Mathlib.Omega.{arith}
 use Rattle.pieces.proofs.CutParts.{start-next, start-stop, start-done}

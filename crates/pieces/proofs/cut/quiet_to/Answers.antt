@@ -1,5 +1,4 @@
 -- The search for the end of a run. Invariant: what is left of it finds what the whole finds. The measure is the frames left. Assumes nothing.
-use Prim.Native.Nat.{◌-◌}
 use mathlib.Core.Path.{refl, sym, ◌∙◌}
 use native.Mathlib.Omega.{arith}
 use Rattle.pieces.proofs.CutParts.{end-next, end-stop, end-done}

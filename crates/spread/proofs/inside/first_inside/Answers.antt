@@ -1,5 +1,4 @@
 -- `spread::inside::first_inside` meets its contract: what is left of the search finds what the whole finds. Assumes nothing.
-use Prim.Native.Nat.{◌-◌}
 use mathlib.Core.Path.{sym, ◌∙◌}
 use native.Mathlib.Omega.{arith}
 use Rattle.spread.proofs.InsideSpan.{first-start, first_next, first-stop, first_done}
