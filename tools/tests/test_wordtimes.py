@@ -182,7 +182,7 @@ class Command(unittest.TestCase):
         self.assertEqual((status, asked), (0, ["run"]))
         self.assertTrue(out.startswith("1 of 1 word, 1 piece: "), out)
         said, of_rt = err.splitlines()
-        self.assertRegex(said, r"^wordtimes: the program fitlist isn't built: `rt run` in crates/fitlist proves and builds it now, once \(about .* on two cores\)$")
+        self.assertRegex(said, r"^wordtimes: the program fitlist isn't built: `rt run` in crates/fitlist proves and builds it now, once \(under .* on four cores\)$")
         self.assertEqual(of_rt, "rt: ok")
         status, _, err, asked = self.in_a_repository("exit 1")
         self.assertEqual((status, err, asked), (0, "", ["run"]))
