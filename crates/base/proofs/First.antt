@@ -7,47 +7,52 @@ use mathlib.Core.Logic.{◌↔◌, ◌⊎◌, inl, inr}
 use mathlib.Core.List.{List, [], ◌∷◌, ◌++◌, append-nil}
 use Prim.Native.Nat.{ℕ}
 use native.Mathlib.Omega.{arith}
-use Rattle.base.specs.declared.Rule.{Rule}
-use Rattle.base.specs.declared.Rule.TheVariants.{Fine, Breaks}
-use Rattle.base.specs.Refusals.{number, Test, first, None, First, Says, accepts, refuses, says_of, Among, Listed, Judged, Without}
+use Rattle.std.proofs.lemmas.Result.{err_from_is_err_and}
+use Rattle.base.specs.declared.Refusal.{Refusal}
+use Rattle.std.specs.Prelude.{Ok, Err, Result, IsErrAnd}
+use Rattle.base.specs.Refusals.{Rule, number, Test, first, NoneApplies, First, Says, accepts, refuses, says_of, Among, Listed, Judged, Without}
 
 pub first-skip : (t : Test) (ts : List Test) → t.applies ≡ false → first (t ∷ ts) ≡ first ts
 unfolding first
 first-skip t ts h = rw h
 
-pub first-here : (t : Test) (ts : List Test) → t.applies ≡ true → first (t ∷ ts) ≡ Breaks t.refusal
+pub first-here : (t : Test) (ts : List Test) → t.applies ≡ true → first (t ∷ ts) ≡ Err t.refusal
 unfolding first
 first-here t ts h = rw h
 
-pub first-end : first [] ≡ Fine
+pub first-end : first [] ≡ Ok tt
 unfolding first
 first-end = refl
+
+-- what the exit of a `?` gives back is the refusal that the call before it gave
+pub refused : {A : Type 0} {why : Refusal} (r : Result A Refusal) → IsErrAnd r (λ (x : Refusal). x ≡ why) → r ≡ Err why
+refused r h = let p = err_from_is_err_and r h in p.1 ∙ ap (λ (x : Refusal). Err x) p.2
 
 -- nothing is said to be accepted and refused
 pub apart : {A B : Type 0} {v : A} {n : ℕ} → accepts v ≡ refuses n → B
 apart h = absurd (let z : ◌≡◌ {A = ℕ} 0 1 = cc in omega arith)
 
 -- ---- no test applies
-pub none-fine : (ts : List Test) → None ts → first ts ≡ Fine
+pub none-fine : (ts : List Test) → NoneApplies ts → first ts ≡ Ok tt
 unfolding first
 none-fine [] n = refl
 none-fine (t ∷ ts) n = first-skip t ts n.0 ∙ none-fine ts n.1
 
-pub fine-none : (ts : List Test) → first ts ≡ Fine → None ts
+pub fine-none : (ts : List Test) → first ts ≡ Ok tt → NoneApplies ts
 fine-none [] h = tt
 fine-none (t ∷ ts) h = go t.applies refl (fine-none ts) where
-  go : (b : Bool) → t.applies ≡ b → (first ts ≡ Fine → None ts) → None (t ∷ ts)
+  go : (b : Bool) → t.applies ≡ b → (first ts ≡ Ok tt → NoneApplies ts) → NoneApplies (t ∷ ts)
   go true e later = absurd (let k = sym (first-here t ts e) ∙ h in let z : ◌≡◌ {A = ℕ} 0 1 = cc in omega arith)
   go false e later = (e, later (sym (first-skip t ts e) ∙ h))
 
 module _ {A : Type 0} (v : A) where
   -- ---- what is said tells what was found
-  says-fine : (r : Rule) → says_of v r ≡ accepts v → r ≡ Fine
-  says-fine Fine h = refl
-  says-fine (Breaks r) h = apart (sym h)
+  says-fine : (r : Rule) → says_of v r ≡ accepts v → r ≡ Ok tt
+  says-fine (Ok u) h = refl
+  says-fine (Err r) h = apart (sym h)
 
   -- ---- n is the first of the numbers that apply
-  first-after : (us : List Test) (t : Test) (ts : List Test) → None us → t.applies ≡ true → first (us ++ t ∷ ts) ≡ Breaks t.refusal
+  first-after : (us : List Test) (t : Test) (ts : List Test) → NoneApplies us → t.applies ≡ true → first (us ++ t ∷ ts) ≡ Err t.refusal
   first-after [] t ts n e = first-here t ts e
   first-after (u ∷ us) t ts n e = first-skip u (us ++ t ∷ ts) n.0 ∙ first-after us t ts n.1 e
 
@@ -99,7 +104,7 @@ listed-first {A} v numbers n (t ∷ ts) l h = go t.applies refl l.0 (listed-firs
         subst (λ (x : ℕ). Among x numbers) m k
 
 -- ---- A call that says what its tests find keeps its promise.
-pub judged : {A : Type 0} {within : Type 0} {numbers : List ℕ} {ts : List Test} {says : Says A} (v : A) → within ↔ None ts → Listed numbers ts → says ≡ says_of v (first ts) → Judged within numbers ts v says
+pub judged : {A : Type 0} {within : Type 0} {numbers : List ℕ} {ts : List Test} {says : Says A} (v : A) → within ↔ NoneApplies ts → Listed numbers ts → says ≡ says_of v (first ts) → Judged within numbers ts v says
 judged {A} {within} {numbers} {ts} v w l s = record {
   accepted-exactly = (λ h. s ∙ ap (says_of v) (none-fine ts (w.0 h)), λ h. w.1 (fine-none ts (says-fine v (first ts) (sym s ∙ h))));
   refused-exactly = λ n. (λ f. s ∙ first_says v n ts f, λ h. says_first v n ts (sym s ∙ h));
@@ -111,11 +116,11 @@ abbrev said : List Test → Says ℕ
 said ts = says_of {A = ℕ} 0 (first ts)
 
 -- no test of a list is for n, and n is found with others behind it: then none of the list applies, and n is found by the others
-without-said : (n : ℕ) (us ts : List Test) → Without n us → said (us ++ ts) ≡ refuses n → None us × (said ts ≡ refuses n)
+without-said : (n : ℕ) (us ts : List Test) → Without n us → said (us ++ ts) ≡ refuses n → NoneApplies us × (said ts ≡ refuses n)
 without-said n [] ts w h = (tt, h)
 without-said n (u ∷ us) ts w h = go u.applies refl (without-said n us ts w.1)
   where
-    go : (b : Bool) → u.applies ≡ b → (said (us ++ ts) ≡ refuses n → None us × (said ts ≡ refuses n)) → None (u ∷ us) × (said ts ≡ refuses n)
+    go : (b : Bool) → u.applies ≡ b → (said (us ++ ts) ≡ refuses n → NoneApplies us × (said ts ≡ refuses n)) → NoneApplies (u ∷ us) × (said ts ≡ refuses n)
     go false e later = let k = later (sym (ap (says_of {A = ℕ} 0) (first-skip u (us ++ ts) e)) ∙ h) in ((e, k.0), k.1)
     go true e later =
         let s : ◌≡◌ {A = Says ℕ} (refuses (number u.refusal)) (refuses n) = sym (ap (says_of {A = ℕ} 0) (first-here u (us ++ ts) e)) ∙ h in
@@ -123,7 +128,7 @@ without-said n (u ∷ us) ts w h = go u.applies refl (without-said n us ts w.1)
 
 -- ---- Where one test alone is for a refusal, its number is the first that applies exactly when that test applies and none before it does.
 pub first-exactly : (us : List Test) (t : Test) (ts : List Test) → Without (number t.refusal) us → Without (number t.refusal) ts
-    → (None us × (t.applies ≡ true)) ↔ First (number t.refusal) (us ++ t ∷ ts)
+    → (NoneApplies us × (t.applies ≡ true)) ↔ First (number t.refusal) (us ++ t ∷ ts)
 first-exactly us t ts before after = (
   λ h. record { before = us; test = t; after = ts; split = refl; none = h.0; applies = h.1; is = refl },
   λ f. let k = without-said n us (t ∷ ts) before (first_says {A = ℕ} 0 n (us ++ t ∷ ts) f) in (k.0, go t.applies refl k.1),

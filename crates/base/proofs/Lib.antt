@@ -1,5 +1,6 @@
 -- Laws that the crates' proofs share.
 pub mod Loops
+pub mod Searches
 pub mod Lists
 pub mod Parts
 pub mod Cleared

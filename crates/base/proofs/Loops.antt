@@ -14,6 +14,7 @@ use lib.IntN.{ℤ, pos, negsuc, suc_ℤ, pred_ℤ, ◌-ℤ◌, sub_ℕ, -ℤ_one
 use lib.Dec.{ltb}
 use lib.Signed.{lt_z}
 use borrow.Author.Tests.{le-ltb, ltb-true, ltb-false}
+use Rattle.std.specs.List.{fold as fold_all}
 use Rattle.base.specs.Whole.{to_nat, min_z, max_z}
 use Rattle.base.specs.Loop.{Turn, on, out, each, fold, table, run, range, run_back, range_back, down, up}
 
@@ -66,6 +67,12 @@ module _ {S : Type 0} where
   pub each-done : (f : ℕ → S → S) (e i : ℕ) (s : S) → e ≤ i → each f (e - i) i s ≡ s
   unfolding each
   each-done f e i s h = let h' : e - i ≡ 0 = omega arith in rw h'
+
+  -- std's fold over a list is ours
+  pub fold-is : {A : Type 0} (f : S → A → S) (s : S) (xs : List A) → fold_all f s xs ≡ fold f s xs
+  unfolding fold
+  fold-is f s [] = refl
+  fold-is f s (x ∷ xs) = fold-is f (f s x) xs
 
   -- a loop over a list stands at i
   module _ {A : Type 0} (f : S → A → S) (xs : List A) where
@@ -284,10 +291,6 @@ module _ (p : ℕ → Bool) where
   unfolding down
   down-stop zero t = refl
   down-stop (suc a) t = rw t
-
-  pub down-done : (a : ℕ) → a ≤ 0 → down p a ≡ a
-  unfolding down
-  down-done a h = let z : a ≡ 0 = omega arith in rw z
 
   pub down_le : (a : ℕ) → down p a ≤ a
   unfolding down

@@ -1,11 +1,10 @@
--- A part from a to e that was lent and came back: what stands before and behind it, an empty part, and a part filled place by place. Assumes nothing.
-use Prim.Native.Nat.{ℕ, suc, ◌+◌, ◌-◌, ◌≤◌, ◌<◌}
+-- A part from a to e that was lent and came back: what stands before and behind it, and an empty part. Assumes nothing.
+use Prim.Native.Nat.{ℕ, ◌+◌, ◌-◌, ◌≤◌, ◌<◌}
 use mathlib.Core.Path.{◌≡◌, sym, ap, ◌∙◌}
 use mathlib.Core.List.{List, [], ◌++◌, append_assoc}
 use native.Mathlib.Omega.{arith}
-use native.Mathlib.Numerals.{add-one}
-use lib.ListN.{length, take, drop, set, replicate, length-append, length-drop, take-append-drop}
-use lib.Seq.{length-take-le, take-add, take_at, drop_at, drop-drop, drop-set-lt, take-suc-set, append_snoc}
+use lib.ListN.{length, take, drop, length-append, length-drop, take-append-drop}
+use lib.Seq.{length-take-le, take-add, take_at, drop_at, drop-drop}
 use lib.Ieee.{Float, nan}
 use Rattle.base.specs.Words.{Edges, edges, times, times_at, part, with_part, part_edges, on_part}
 use Rattle.base.proofs.Lists.{part-before, part-after}
@@ -41,21 +40,6 @@ module _ {A : Type 0} where
   -- ---- the first a, and the part behind them
   pub take_part : (a e : ℕ) (xs : List A) → a ≤ e → take a xs ++ part a e xs ≡ take e xs
   take_part a e xs h = let z : a + (e - a) ≡ e = omega arith in sym (ap (λ (k : ℕ). take k xs) (sym z) ∙ take-add a (e - a) xs)
-
-  -- ---- places i to e filled with v
-  unfoldable pub filled : ℕ → ℕ → A → List A → List A
-  filled i e v xs = with_part i e xs (replicate (e - i) v)
-
-  pub fill-next : (i e : ℕ) (v : A) (xs : List A) → i < e → e ≤ length xs → filled i e v xs ≡ filled (i + 1) e v (set xs i v)
-  unfolding filled
-  fill-next i e v xs h k =
-      let n : e - i ≡ suc (e - suc i) = omega arith in
-      rw (rest-is i e xs (omega arith), add-one, rest-is (suc i) e (set xs i v) h, drop-set-lt e xs i v h, take-suc-set xs i v (omega arith), n)
-      (sym (append_snoc (take i xs) v (replicate (e - suc i) v ++ drop e xs)))
-
-  pub fill_done : (i e : ℕ) (v : A) (xs : List A) → i ≤ e → e ≤ i → filled i e v xs ≡ xs
-  unfolding filled
-  fill_done i e v xs h k = let z : e ≡ i = omega arith in let n : i - i ≡ 0 = omega arith in rw (z, n) (take-append-drop i xs)
 
 -- ---- both lists of times
 pub part-made : (a e : ℕ) (f : Edges → Edges) (es : Edges) {s t : List Float} → edges s t ≡ f (part_edges a e es)

@@ -1,14 +1,7 @@
 -- Refusals, their numbers, and the first that applies, as document 01 has them; and what a call says in these terms. Assumes nothing.
-use Rattle.std.specs.Prelude.{ℕ, ◌≡◌, Bool, true, false, cond, ◌↔◌, ◌⊎◌, List, [], ◌∷◌, ◌++◌, Float}
-use Rattle.std.proofs.Math.Option.{Option, none, some}
+use Rattle.std.specs.Prelude.{ℕ, ◌≡◌, Bool, true, false, cond, ◌↔◌, ◌⊎◌, List, [], ◌∷◌, ◌++◌, Result, Ok, Err}
 use Rattle.base.specs.declared.Refusal.{Refusal}
 use Rattle.base.specs.declared.Refusal.TheVariants.{Time, Letters, Lengths, Counts, Layout, Places, Levels, Cut}
-use Rattle.base.specs.declared.Rule.{Rule}
-use Rattle.base.specs.declared.Rule.TheVariants.{Fine, Breaks}
-use Rattle.base.specs.declared.NextStart.{NextStart}
-use Rattle.base.specs.declared.NextStart.TheVariants.{Starts, NoNext}
-use Rattle.base.specs.declared.SoundEnd.{SoundEnd}
-use Rattle.base.specs.declared.SoundEnd.TheVariants.{Ends, NoSound}
 
 -- ---- "Refused for the input" and "Refused for the state of what is lent": document 01's number of each refusal.
 abbrev pub number : Refusal → ℕ
@@ -29,15 +22,19 @@ pub record Test : Type 0 where
 abbrev pub test : Bool → Refusal → Test
 test b r = record { applies = b; refusal = r }
 
+-- ---- What the tests of a call find: nothing, or the first refusal that applies. `Result<(), Refusal>`
+abbrev pub Rule : Type 0
+Rule = Result (Unit {0}) Refusal
+
 -- ---- "Order: 3, 4, 1, 2, 7, 6, 8": the first refusal that applies, of tests in their order.
 unfoldable pub first : List Test → Rule
-first [] = Fine
-first (t ∷ ts) = cond t.applies (Breaks t.refusal) (first ts)
+first [] = Ok tt
+first (t ∷ ts) = cond t.applies (Err t.refusal) (first ts)
 
 -- ---- No test of the list applies.
-abbrev pub None : List Test → Type 0
-None [] = Unit {0}
-None (t ∷ ts) = (t.applies ≡ false) × None ts
+abbrev pub NoneApplies : List Test → Type 0
+NoneApplies [] = Unit {0}
+NoneApplies (t ∷ ts) = (t.applies ≡ false) × NoneApplies ts
 
 -- ---- n is the first of the numbers that apply: a test of the list applies, its refusal has the number n, and no test before it applies.
 pub record First (n : ℕ) (ts : List Test) : Type 0 where
@@ -45,7 +42,7 @@ pub record First (n : ℕ) (ts : List Test) : Type 0 where
   pub test : Test
   pub after : List Test
   pub split : ts ≡ before ++ test ∷ after
-  pub none : None before
+  pub none : NoneApplies before
   pub applies : test.applies ≡ true
   pub is : number test.refusal ≡ n
 
@@ -56,10 +53,14 @@ pub data Says (A : Type 0) : Type 0 where
   accepts : A → Says A
   refuses : ℕ → Says A
 
+abbrev pub says : {A : Type 0} → Result A Refusal → Says A
+says (Ok values) = accepts values
+says (Err r) = refuses (number r)
+
 -- ---- The same by what the tests find.
 abbrev pub says_of : {A : Type 0} → A → Rule → Says A
-says_of values Fine = accepts values
-says_of values (Breaks r) = refuses (number r)
+says_of values (Ok u) = accepts values
+says_of values (Err r) = refuses (number r)
 
 -- ---- n is one of the numbers listed.
 abbrev pub Among : ℕ → List ℕ → Type 0
@@ -82,12 +83,3 @@ pub record Judged {A : Type 0} (within : Type 0) (numbers : List ℕ) (tests : L
   pub accepted-exactly : within ↔ (says ≡ accepts values)
   pub refused-exactly : (n : ℕ) → First n tests ↔ (says ≡ refuses n)
   pub refused-among : (n : ℕ) → says ≡ refuses n → Among n numbers
-
--- ---- "`Option<f64>` .. become enums": the value of each case of the two that every part shares, or that there is none.
-abbrev pub start_value : NextStart → Option Float
-start_value (Starts t) = some t
-start_value NoNext = none
-
-abbrev pub end_value : SoundEnd → Option Float
-end_value (Ends t) = some t
-end_value NoSound = none

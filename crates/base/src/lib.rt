@@ -1,13 +1,13 @@
 // What every part shares: the refusals of document 01 with their numbers, and a word's times.
 #![tactic(auto)]
 
-ghost use Rattle.std.specs.Prelude.{◌≡◌, min, ◌≤◌, length};
+ghost use Rattle.std.specs.Prelude.{◌≡◌, ◌≤◌, length};
 ghost use Rattle.base.specs.Refusals.{number as number_of};
 ghost use Rattle.base.specs.Words.{words, words_in_places};
 ghost use Rattle.base.specs.Parts.{OneLength, first_words};
 
 // Why a call refuses.
-#[derive(Clone, Copy)]
+#[derive(Clone, Copy, Debug, PartialEq, Eq)]
 pub enum Refusal {
     // a time outside its range
     Time,
@@ -27,13 +27,6 @@ pub enum Refusal {
     Cut,
 }
 
-// What the checks of a call find: nothing, or the first refusal that applies.
-#[derive(Clone, Copy)]
-pub enum Rule {
-    Fine,
-    Breaks(Refusal),
-}
-
 // A word's two times, in seconds: they travel together.
 #[derive(Clone, Copy)]
 pub struct Times {
@@ -41,44 +34,22 @@ pub struct Times {
     pub end: f64,
 }
 
-// Where the next word starts, in seconds, or that there is none (Rust's `Option<f64>`).
-#[derive(Clone, Copy)]
-pub enum NextStart {
-    Starts(f64),
-    NoNext,
-}
-
-// Where a word's sound ends, in seconds, or that there is none (Rust's `Option<f64>`).
-#[derive(Clone, Copy)]
-pub enum SoundEnd {
-    Ends(f64),
-    NoSound,
-}
-
 // Document 01's number of a refusal.
-pub fn number(r: Refusal) -> u32
-    ensures { result ≡ number_of r }
-{
-    match r {
-        Refusal::Time => 1,
-        Refusal::Letters => 2,
-        Refusal::Lengths => 3,
-        Refusal::Counts => 4,
-        Refusal::Layout => 5,
-        Refusal::Places => 6,
-        Refusal::Levels => 7,
-        Refusal::Cut => 8,
-    }
-}
+impl From<Refusal> for u32 {
+    ghost from_gives = { λ r n. n ≡ number_of r };
 
-// The lower of two numbers.
-pub fn least(a: usize, b: usize) -> usize
-    ensures { result ≡ min a b }
-{
-    if b < a {
-        return b;
+    fn from(r: Refusal) -> u32 {
+        match r {
+            Refusal::Time => 1,
+            Refusal::Letters => 2,
+            Refusal::Lengths => 3,
+            Refusal::Counts => 4,
+            Refusal::Layout => 5,
+            Refusal::Places => 6,
+            Refusal::Levels => 7,
+            Refusal::Cut => 8,
+        }
     }
-    a
 }
 
 // Makes every place of the words from `count` on zero.
@@ -96,13 +67,9 @@ pub fn clear(
         let after = words starts.new ends.new letters.new units.new keys.new in
         after ≡ words_in_places (length keys.old) (first_words count before) }
 {
-    let mut i = count;
-    while i < keys.len() {
-        starts[i] = 0.0;
-        ends[i] = 0.0;
-        letters[i] = 0;
-        units[i] = 0;
-        keys[i] = 0;
-        i += 1;
-    }
+    starts[count..].fill(0.0);
+    ends[count..].fill(0.0);
+    letters[count..].fill(0);
+    units[count..].fill(0);
+    keys[count..].fill(0);
 }

@@ -1,6 +1,7 @@
 -- snap_ends lets the times grow by ten sixty-fourths a word at most. Of two words with no length the shared edge lies part of the way between two
 -- times, of which the later may be 0.12 s later than any before, and is rounded to a thousandth; any other word ends 0.06 s after its start, or at a time that is
 -- there already, or at a frame of the row. Assumes nothing.
+use Rattle.std.specs.Prelude.{Option, Some, None}
 use Prim.Native.Nat.{ℕ, suc, ◌+◌, ◌*◌, ◌<◌, ◌≤◌, ◌^◌}
 use mathlib.Core.Bool.{Bool, true, false, cond, ◌&&◌, ◌||◌}
 use mathlib.Core.List.{List}
@@ -19,10 +20,6 @@ use Rattle.base.specs.Loop.{on, out}
 use Rattle.base.specs.Floats.{◌⊕◌, ◌⊖◌, ◌⊗◌, ◌⊘◌, num, Most}
 use Rattle.base.specs.Words.{Edges, edges, times, times_at, set_times, edge_quiet, loose}
 use Rattle.base.specs.declared.Times.{Times}
-use Rattle.base.specs.declared.NextStart.{NextStart}
-use Rattle.base.specs.declared.NextStart.TheVariants.{Starts, NoNext}
-use Rattle.base.specs.declared.SoundEnd.{SoundEnd}
-use Rattle.base.specs.declared.SoundEnd.TheVariants.{Ends, NoSound}
 use Rattle.base.proofs.Loops.{Holds, run_holds, each_holds, each_keeps}
 use Rattle.base.proofs.Most.{round-most, held}
 use Rattle.base.proofs.Values.{whole-int, add-whole, div-whole}
@@ -127,34 +124,34 @@ module _ (row : List Bool) (b : ℕ) (short : length row ≤ 360000) (large : ho
   last-heard edge a bound =
       run_holds (last_turn edge row) (λ (s : Last). Heard s.last) (λ k. Unit {0}) (last_turn-holds edge) (λ k u. tt) (to_nat (bound -ℤ a)) a (on (record { last = negsuc 0; quiet = 0 })) tt tt
 
-  abbrev pub SoundUnder : SoundEnd → Type 0
-  SoundUnder NoSound = Unit {0}
-  SoundUnder (Ends s) = Under b s
+  abbrev pub SoundUnder : Option Float → Type 0
+  SoundUnder None = Unit {0}
+  SoundUnder (Some s) = Under b s
 
   pub sound-under : (last : ℤ) → Heard last → SoundUnder (sound_end last)
   unfolding sound_end
   sound-under (negsuc j) h = tt
   sound-under (pos j) h = go (ltb j 0)
     where
-      go : (t : Bool) → SoundUnder (cond t NoSound (Ends (frame_seconds (pos (j + 1)))))
+      go : (t : Bool) → SoundUnder (cond t None (Some (frame_seconds (pos (j + 1)))))
       go true = tt
       go false = hour-under b (pos (j + 1)) large (omega arith)
 
   -- ---- any other word
-  abbrev NextUnder : NextStart → Type 0
-  NextUnder (Starts s) = Under b s
-  NextUnder NoNext = Unit {0}
+  abbrev NextUnder : Option Float → Type 0
+  NextUnder (Some s) = Under b s
+  NextUnder None = Unit {0}
 
-  limit-under : (next : NextStart) (duration : Float) → NextUnder next → Under b duration → Under b (or_duration next duration)
+  limit-under : (next : Option Float) (duration : Float) → NextUnder next → Under b duration → Under b (or_duration next duration)
   unfolding or_duration
-  limit-under (Starts s) duration h d = h
-  limit-under NoNext duration h d = d
+  limit-under (Some s) duration h d = h
+  limit-under None duration h d = d
 
-  trim-under : (sound : SoundEnd) (limit : Float) (w : Times) → SoundUnder sound → Under b limit → Under b w.start → Under b w.end
+  trim-under : (sound : Option Float) (limit : Float) (w : Times) → SoundUnder sound → Under b limit → Under b w.start → Under b w.end
       → Under (b + growth) (trimmed sound limit w).start × Under (b + growth) (trimmed sound limit w).end
   unfolding trimmed
-  trim-under NoSound limit w h l s e = (under_more 64 b (b + growth) w.start (omega arith) s, under_more 64 b (b + growth) w.end (omega arith) e)
-  trim-under (Ends sound) limit w h l s e = go (lt (sound ⊕ loose) w.end || lt (w.end ⊖ w.start) no_length)
+  trim-under None limit w h l s e = (under_more 64 b (b + growth) w.start (omega arith) s, under_more 64 b (b + growth) w.end (omega arith) e)
+  trim-under (Some sound) limit w h l s e = go (lt (sound ⊕ loose) w.end || lt (w.end ⊖ w.start) no_length)
     where
       cut : Float
       cut = js_max (w.start ⊕ no_length) (js_min sound limit)
@@ -170,7 +167,7 @@ module _ (row : List Bool) (b : ℕ) (short : length row ≤ 360000) (large : ho
       go false = (under_more 64 b (b + growth) w.start (omega arith) s, under_more 64 b (b + growth) w.end (omega arith) e)
 
   module _ (duration : Float) (d : Under b duration) where
-    end-under : (next : NextStart) (w : Times) → NextUnder next → Under b w.start → Under b w.end
+    end-under : (next : Option Float) (w : Times) → NextUnder next → Under b w.start → Under b w.end
         → Under (b + growth) (end_of row duration next w).start × Under (b + growth) (end_of row duration next w).end
     unfolding end_of
     end-under next w h s e =
@@ -186,7 +183,7 @@ module _ (row : List Bool) (b : ℕ) (short : length row ≤ 360000) (large : ho
     unfolding next_start
     next_under starts i h = go (ltb (i + 1) (length starts)) refl
       where
-        go : (t : Bool) → ltb (i + 1) (length starts) ≡ t → NextUnder (cond t (Starts (get_or starts (i + 1) nan)) NoNext)
+        go : (t : Bool) → ltb (i + 1) (length starts) ≡ t → NextUnder (cond t (Some (get_or starts (i + 1) nan)) None)
         go true t = h (i + 1) (ltb-true (i + 1) (length starts) t)
         go false t = tt
 

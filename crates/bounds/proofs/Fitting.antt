@@ -1,5 +1,6 @@
 -- fit_to_sound lets a time grow by 0.02 s for each word, for a start may be put so long after the one before it; once by the last word's slow pace, 120 s, where words are evened with
 -- no limit; and twice by what evening adds for each run. Else a word starts at a frame of the row, and ends half a second later or at a time that is there already. Assumes nothing.
+use Rattle.std.specs.Prelude.{Option, Some, None}
 use Prim.Native.Nat.{ℕ, suc, ◌+◌, ◌-◌, ◌*◌, ◌<◌, ◌≤◌, ◌^◌}
 use mathlib.Core.Bool.{Bool, true, false, cond, not, ◌&&◌, ◌||◌, true≢false}
 use mathlib.Core.List.{List}
@@ -19,10 +20,6 @@ use Rattle.base.specs.Loop.{on, out}
 use Rattle.base.specs.Floats.{◌⊕◌, ◌⊖◌, ◌⊗◌, num, Most}
 use Rattle.base.specs.Words.{Edges, times, times_at, set_times, loose, end_silence}
 use Rattle.base.specs.declared.Times.{Times}
-use Rattle.base.specs.declared.NextStart.{NextStart}
-use Rattle.base.specs.declared.NextStart.TheVariants.{Starts, NoNext}
-use Rattle.base.specs.declared.SoundEnd.{SoundEnd}
-use Rattle.base.specs.declared.SoundEnd.TheVariants.{Ends, NoSound}
 use Rattle.base.proofs.Loops.{Holds, run_holds, each_holds, lt_z-nat, sub-nat}
 use Rattle.js.specs.Js.{js_min, js_max}
 use Rattle.frames.specs.Frames.{frame_at, frame_from_zero, frame_seconds}
@@ -211,7 +208,7 @@ min-low x y = go (lt_z y x) refl
     go true t = lower x y t
     go false t = omega arith
 
-stop-in : (n : ℕ) (next : NextStart) (start : Float) (k : ℤ) → FromZero k → lt_z k (stop_at (pos n) next start) ≡ true → nat_abs k ≤ n
+stop-in : (n : ℕ) (next : Option Float) (start : Float) (k : ℤ) → FromZero k → lt_z k (stop_at (pos n) next start) ≡ true → nat_abs k ≤ n
 unfolding stop_at
 stop-in n next start (negsuc j) z h = absurd z
 stop-in n next start (pos j) z h = omega (arith, l, min-low inner last, min-low (pos n -ℤ pos loud_run) ahead, sub-nat n loud_run)
@@ -261,7 +258,7 @@ module _ (row : List Bool) (short : length row ≤ 360000) (c : ℕ) (large : 36
       number : is_nan (start ⊕ keep) ≡ false
       number = under-number 1 24576 (start ⊕ keep) (add-under 0 (lit≤ tt) 8192 16384 start keep (lit< tt) start-whole whole)
 
-  rise_one : (next : NextStart) (w : Times) → TimesUnder c w → TimesUnder c (rise_of row next w)
+  rise_one : (next : Option Float) (w : Times) → TimesUnder c w → TimesUnder c (rise_of row next w)
   unfolding rise_of
   rise_one next w u =
       let frames : ℤ = pos (length row) in
@@ -297,13 +294,13 @@ clip-under n c es t =
 
 -- ---- ends settled: at the sound's end, or at the next start
 module _ (row : List Bool) (short : length row ≤ 360000) (c : ℕ) (large : 3600 * steps ≤ c) where
-  abbrev SoundIn : SoundEnd → Type 0
-  SoundIn NoSound = Unit {0}
-  SoundIn (Ends s) = UnderIn steps c s
+  abbrev SoundIn : Option Float → Type 0
+  SoundIn None = Unit {0}
+  SoundIn (Some s) = UnderIn steps c s
 
-  abbrev NextIn : NextStart → Type 0
-  NextIn (Starts s) = UnderIn steps c s
-  NextIn NoNext = Unit {0}
+  abbrev NextIn : Option Float → Type 0
+  NextIn (Some s) = UnderIn steps c s
+  NextIn None = Unit {0}
 
   sound-in : (from to : Float) → SoundIn (sound_end_in row from to)
   unfolding sound_end_in
@@ -315,39 +312,39 @@ module _ (row : List Bool) (short : length row ≤ 360000) (c : ℕ) (large : 36
       last : ℤ
       last = last_loud end_silence row (frame_from_zero from) bound
 
-      go : (x : SoundEnd) → SoundUnder row 230400 short (le_refl 230400) (lit< tt) x → SoundIn x
-      go NoSound h = tt
-      go (Ends s) h = under_more steps (3600 * steps) c s large (under-finer 64 (2 ^ 34) 230400 s h)
+      go : (x : Option Float) → SoundUnder row 230400 short (le_refl 230400) (lit< tt) x → SoundIn x
+      go None h = tt
+      go (Some s) h = under_more steps (3600 * steps) c s large (under-finer 64 (2 ^ 34) 230400 s h)
 
   next-in : (n i : ℕ) (es : Edges) → Timed n c es → NextIn (next_start es.starts i)
   unfolding next_start
   next-in n i es t = go (ltb (i + 1) (length es.starts)) refl
     where
-      go : (b : Bool) → ltb (i + 1) (length es.starts) ≡ b → NextIn (cond b (Starts (get_or es.starts (i + 1) nan)) NoNext)
+      go : (b : Bool) → ltb (i + 1) (length es.starts) ≡ b → NextIn (cond b (Some (get_or es.starts (i + 1) nan)) None)
       go true b = t.small.starts (i + 1) (ltb-true (i + 1) (length es.starts) b)
       go false b = tt
 
-  lasts-under : (next : NextStart) (end : Float) (w : Times) → NextIn next → UnderIn steps c end → TimesUnder c w → TimesUnder c (lasts_to row next end w)
+  lasts-under : (next : Option Float) (end : Float) (w : Times) → NextIn next → UnderIn steps c end → TimesUnder c w → TimesUnder c (lasts_to row next end w)
   unfolding lasts_to
-  lasts-under (Starts s) end w h e u = either c (lt w.end s && not (quiet_run row w.end s)) (times w.start s) w (λ t. (u.0, h)) (λ t. u)
-  lasts-under NoNext end w h e u = either c (lt w.end end) (times w.start end) w (λ t. (u.0, e)) (λ t. u)
+  lasts-under (Some s) end w h e u = either c (lt w.end s && not (quiet_run row w.end s)) (times w.start s) w (λ t. (u.0, h)) (λ t. u)
+  lasts-under None end w h e u = either c (lt w.end end) (times w.start end) w (λ t. (u.0, e)) (λ t. u)
 
   cut-under : (letters : ℕ) (end : Float) (w : Times) → UnderIn steps c end → TimesUnder c w → TimesUnder c (cut_back letters end w)
   unfolding cut_back
   cut-under letters end w e u =
       either c (lt (end ⊕ loose) w.end && le (js_min max_need (letter_time ⊗ num letters)) (end ⊖ w.start)) (times w.start end) w (λ t. (u.0, e)) (λ t. u)
 
-  ended-under : (next : NextStart) (letters : ℕ) (x : SoundEnd) (w : Times) → NextIn next → SoundIn x → TimesUnder c w → TimesUnder c (ended_by row next letters x w)
+  ended-under : (next : Option Float) (letters : ℕ) (x : Option Float) (w : Times) → NextIn next → SoundIn x → TimesUnder c w → TimesUnder c (ended_by row next letters x w)
   unfolding ended_by
-  ended-under next letters NoSound w h s u = u
-  ended-under next letters (Ends end) w h s u = lasts-under next end (cut_back letters end w) h s (cut-under letters end w s u)
+  ended-under next letters None w h s u = u
+  ended-under next letters (Some end) w h s u = lasts-under next end (cut_back letters end w) h s (cut-under letters end w s u)
 
   settle-under : (duration : Float) (letters : List ℕ) (n : ℕ) (es : Edges) → Timed n c es → Timed n c (settle_ends row duration letters es)
   unfolding settle_ends end_turn end_of
   settle-under duration letters n es t =
       each_holds (λ (i : ℕ) (s : Edges). Timed n c s) (end_turn row duration letters) n
       (λ i s l p.
-      let next : NextStart = next_start s.starts i in
+      let next : Option Float = next_start s.starts i in
       let w : Times = times_at s i in
       set-timed n c i s (end_of row duration next (get_or letters i 0) w) p
       (ended-under next (get_or letters i 0) (sound_end_in row w.start (or_duration next duration)) w (next-in n i s p) (sound-in w.start (or_duration next duration)) (at-timed n c i s l p)))

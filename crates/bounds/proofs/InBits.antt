@@ -12,12 +12,11 @@ use lib.ListN.{length, get_or}
 use lib.Ieee.{Float, nan, inf, fin, binary64, is_nan, fits, of_bits, of_fields, to_bits}
 use lib.Ieee.Bits.{of_bits-to_bits, to_bits-lt, to_bits-of_bits}
 use Rattle.base.specs.Words.{Words, Spans, edges}
-use Rattle.base.specs.Refusals.{accepts}
-use Rattle.limits.specs.Order.{says}
+use Rattle.base.specs.Refusals.{accepts, says}
 use Rattle.envelope.specs.Envelope.{loud_row}
 use Rattle.fit_file.specs.FitFile.{duration_of, fit_file_call}
 use Rattle.fit_file.proofs.Calls as file
-use Rattle.full_run.specs.FullRun.{Input, says as run_says, full_run}
+use Rattle.full_run.specs.FullRun.{Input, full_run}
 use Rattle.full_run.specs.declared.Report.{Report}
 use Rattle.full_run.proofs.Promises.{accepted-answer}
 use Rattle.invariance.specs.Scaled.{Recorded, Loudest}
@@ -61,7 +60,7 @@ same_bits {x} {y} h k e = record { pattern = ap (to_bits binary64) e; first-only
 
 -- ---- Full run: every start and every end in every word's place has the same bits.
 pub full-run-bits : (k : ℤ) (reversed : Bool) (a b : Input) → Recorded k reversed a.samples b.samples → Loudest a.samples b.samples → AlikeRuns a b
-    → (r r' : Report) → run_says (full_run a).answer ≡ accepts r → run_says (full_run b).answer ≡ accepts r'
+    → (r r' : Report) → says (full_run a).answer ≡ accepts r → says (full_run b).answer ≡ accepts r'
     → ((i : ℕ) → i < length (full_run a).words.starts → SameBits (get_or (full_run a).words.starts i nan) (get_or (full_run b).words.starts i nan))
     × ((i : ℕ) → i < length (full_run a).words.ends → SameBits (get_or (full_run a).words.ends i nan) (get_or (full_run b).words.ends i nan))
 full-run-bits k reversed a b recorded loudest alike r r' h h' =

@@ -1,5 +1,6 @@
 -- In the fit by phrase a time grows as by fit_to_sound, by 0.04 s more, for a word kept inside its span is made to last so long, and by one evening more. A span's
 -- edges are within the range of times, and a run of sound lies in the row. A word is fitted once, in its own phrase's turn, from the times given. Assumes nothing.
+use Rattle.std.specs.Prelude.{Option, Some, None}
 use Prim.Native.Nat.{ℕ, zero, suc, ◌+◌, ◌-◌, ◌*◌, ◌<◌, ◌≤◌, ◌^◌}
 use mathlib.Core.Bool.{Bool, true, false, cond, ◌&&◌, ◌||◌}
 use mathlib.Core.List.{List, [], ◌∷◌}
@@ -27,10 +28,7 @@ use Rattle.envelope.specs.Envelope.{loud}
 use Rattle.word_calls.specs.Within.{AllFrom}
 use Rattle.even.specs.Even.{even_out}
 use Rattle.last_run.specs.LastRun as runs
-use Rattle.last_run.specs.LastRun.{min_run, back_turn, ends_between, frames_of, frame_run, seconds_of, last_run}
-use Rattle.last_run.specs.declared.FrameRun.TheVariants.{Frames, NoFrames}
-use Rattle.last_run.specs.declared.Run.{Run}
-use Rattle.last_run.specs.declared.Run.TheVariants.{Sound, Nothing}
+use Rattle.last_run.specs.LastRun.{min_run, back_turn, ends_between, frames_of, frame_run, seconds_of, last_run, frames}
 use Rattle.fit_to_sound.specs.FitToSound.{fit_to_sound}
 use Rattle.fit_file.specs.FitFile.{min_word, trailing_gap, inside_span, inside_turn, keep_inside, make_way, take_sound, take_run, take_trailing, fit_group, member_turn, members_of, picked, picked_edges, put_edges, fit_phrase, fit_file}
 use Rattle.fit_file.proofs.Members.{turn-hit, turn-miss, members-next}
@@ -122,9 +120,9 @@ module _ (row : List Bool) (short : length row ≤ 360000) (c : ℕ) (large : 36
   unfolding ends_between
   ends-seen lo hi = back-holds (back_turn row) Seen (λ k. Unit {0}) back-turn (λ k u. tt) (to_nat (hi -ℤ pos 1 +ℤ pos 1 -ℤ lo)) (hi -ℤ pos 1) (on (record { end = negsuc 0; start = negsuc 0 })) tt (tt, tt)
 
-  abbrev RunUnder : Run → Type 0
-  RunUnder Nothing = Unit {0}
-  RunUnder (Sound start end) = TimesUnder c (times start end)
+  abbrev RunUnder : Option Times → Type 0
+  RunUnder None = Unit {0}
+  RunUnder (Some w) = TimesUnder c w
 
   run-under : (from to : Float) → RunUnder (last_run row from to)
   unfolding last_run frame_run frames_of
@@ -146,11 +144,11 @@ module _ (row : List Bool) (short : length row ≤ 360000) (c : ℕ) (large : 36
       low (pos j) h = omega arith
       low (negsuc j) h = omega arith
 
-      some : (t : Bool) (first last : ℕ) → first ≤ length row → last < length row → RunUnder (seconds_of (cond t NoFrames (Frames first last)))
+      some : (t : Bool) (first last : ℕ) → first ≤ length row → last < length row → RunUnder (seconds_of (cond t None (Some (frames first last))))
       some true first last h k = tt
       some false first last h k = (frame-under c (pos first) large (omega arith), frame-under c (pos last +ℤ pos 1) large (omega arith))
 
-      go : (e f : ℤ) → InRow e → InRow f → RunUnder (seconds_of (cond (lt_z e (pos 0) || lt_z (e -ℤ f) (pos min_run)) NoFrames (Frames (to_nat f) (to_nat e))))
+      go : (e f : ℤ) → InRow e → InRow f → RunUnder (seconds_of (cond (lt_z e (pos 0) || lt_z (e -ℤ f) (pos min_run)) None (Some (frames (to_nat f) (to_nat e)))))
       go (pos j) f h k = some (lt_z (pos j) (pos 0) || lt_z (pos j -ℤ f) (pos min_run)) (to_nat f) j (low f k) h
       go (negsuc j) f h k = tt
 
@@ -189,12 +187,12 @@ module _ (row : List Bool) (short : length row ≤ 360000) (c : ℕ) (large : 36
       after : Float
       after = get_or es.ends last nan ⊕ trailing_gap
 
-      go : (r : Run) → RunUnder r → Timed n c (take_run r after last es)
-      go Nothing u = t
-      go (Sound start end) u = sound (lt after start)
+      go : (r : Option Times) → RunUnder r → Timed n c (take_run r after last es)
+      go None u = t
+      go (Some w) u = sound (lt after w.start)
         where
-          sound : (b : Bool) → Timed n c (cond b (take_sound last (times start end) es) es)
-          sound true = take-under n last (times start end) es u t
+          sound : (b : Bool) → Timed n c (cond b (take_sound last w es) es)
+          sound true = take-under n last w es u t
           sound false = t
 
 module _ (letters : List ℕ) (ls : AllFrom 1 1000 letters) (few : length letters ≤ 4096) (row : List Bool) (short : length row ≤ 360000) (duration : Float) (span : Times) (b : ℕ) (large : 3601 * steps ≤ b)

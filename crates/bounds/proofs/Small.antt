@@ -14,8 +14,7 @@ use lib.ListN.{length, get_or, replicate}
 use lib.Ieee.{Float, nan, inf, fin, up, down, lt, le, eq, of_bits}
 use lib.Ieee.Fits.{down_pos}
 use Rattle.base.specs.Words.{Words, Spans, Edges, edges, with_edges, count, in_places, zero_f, words_in_places}
-use Rattle.base.specs.Refusals.{accepts}
-use Rattle.limits.specs.Order.{says}
+use Rattle.base.specs.Refusals.{accepts, says}
 use Rattle.word_calls.specs.Within.{Within, LimitWithin, WordsWithin, SoundWithin}
 use Rattle.envelope.specs.Envelope.{loud_row}
 use Rattle.envelope.proofs.Scan.{length-row}
@@ -237,7 +236,7 @@ fit-file-small ws phrases spans levels floor samples places h =
     given (words-timed ws w)).small)
 
 -- ---- placing: 7,200 s and one share-out; the places past the words hold zero
-pub align-small : (ws : Words) (spans : Spans) (phrases : List ℕ) (n : ℕ) → placings.says (align_call ws spans phrases).answer ≡ accepts n → SmallTimes (align_call ws spans phrases).words
+pub align-small : (ws : Words) (spans : Spans) (phrases : List ℕ) (n : ℕ) → says (align_call ws spans phrases).answer ≡ accepts n → SmallTimes (align_call ws spans phrases).words
 unfolding in_their_places words_in_places
 align-small ws spans phrases n h =
     let a = placing.accepted-answer ws spans phrases n h in

@@ -1,32 +1,18 @@
 -- An answer as numbers: refusal 0 and the value where the call accepts, document 01's number of the refusal and 0 where it refuses. Assumes nothing.
-use Rattle.std.specs.Prelude.{ℕ, ◌≡◌, cond, List, Float}
+use Rattle.std.specs.Prelude.{ℕ, ◌≡◌, cond, List, Float, Option, Some, None, Result, Ok, Err}
 use Rattle.std.specs.Float.{binary64}
 use Rattle.std.specs.Float.Ieee.{of_bits}
-use Rattle.base.specs.Refusals.{number}
+use Rattle.base.specs.Refusals.{number, Rule}
 use Rattle.base.specs.Words.{Words}
+use Rattle.base.specs.declared.Refusal.{Refusal}
+use Rattle.base.specs.declared.Times.{Times}
+use Rattle.loops.specs.declared.Left.{Left}
+use Rattle.full_run.specs.declared.Report.{Report}
 use Rattle.loops.specs.Loops as loops
-use Rattle.loops.specs.declared.Answer.{Answer as Collapsed}
-use Rattle.loops.specs.declared.Answer.TheVariants as collapsed
 use Rattle.phrase_align.specs.PhraseAlign as phrases
-use Rattle.phrase_align.specs.declared.Answer.{Answer as Placed}
-use Rattle.phrase_align.specs.declared.Answer.TheVariants as placed
 use Rattle.word_calls.specs.Calls as calls
 use Rattle.tally.specs.Tally as tally
-use Rattle.limits.specs.declared.Answer.{Answer as Moved}
-use Rattle.limits.specs.declared.Answer.TheVariants as moved
-use Rattle.envelope.specs.declared.Answer.{Answer}
-use Rattle.envelope.specs.declared.Answer.TheVariants as heard
-use Rattle.pieces.specs.declared.Answer.{Answer as Cut}
-use Rattle.pieces.specs.declared.Answer.TheVariants as cut
-use Rattle.peak.specs.declared.Level.{Level}
-use Rattle.peak.specs.declared.Level.TheVariants as level
-use Rattle.last_run.specs.declared.Run.{Run}
-use Rattle.last_run.specs.declared.Run.TheVariants.{Sound, Nothing}
-use Rattle.last_run.specs.declared.Answer.{Answer as Searched}
-use Rattle.last_run.specs.declared.Answer.TheVariants as searched
 use Rattle.full_run.specs.FullRun as full
-use Rattle.full_run.specs.declared.Answer.{Answer as Ran}
-use Rattle.full_run.specs.declared.Answer.TheVariants as ran
 use Rattle.c_api.specs.declared.QiluvraitReport.{QiluvraitReport}
 use Rattle.c_api.specs.declared.QiluvraitLevel.{QiluvraitLevel}
 use Rattle.c_api.specs.declared.QiluvraitRun.{QiluvraitRun}
@@ -36,33 +22,33 @@ use Rattle.c_api.specs.declared.QiluvraitLeft.{QiluvraitLeft}
 use Rattle.c_api.specs.declared.QiluvraitPlaced.{QiluvraitPlaced}
 
 -- ---- The floor, or why there is none.
-abbrev pub heard_of : Answer → QiluvraitHeard
-heard_of (heard.Accepted f) = record { refusal = 0; floor = f }
-heard_of (heard.Refused r) = record { refusal = number r; floor = of_bits binary64 0 }
+abbrev pub heard_of : Result Float Refusal → QiluvraitHeard
+heard_of (Ok f) = record { refusal = 0; floor = f }
+heard_of (Err r) = record { refusal = number r; floor = of_bits binary64 0 }
 
 -- ---- The number of pieces, or why there is none.
-abbrev pub cut_of : Cut → QiluvraitCut
-cut_of (cut.Accepted n) = record { refusal = 0; pieces = n }
-cut_of (cut.Refused r) = record { refusal = number r; pieces = 0 }
+abbrev pub cut_of : Result ℕ Refusal → QiluvraitCut
+cut_of (Ok n) = record { refusal = 0; pieces = n }
+cut_of (Err r) = record { refusal = number r; pieces = 0 }
 
 -- ---- The largest magnitude under a word, or why there is none.
-abbrev pub level_of : Level → QiluvraitLevel
-level_of (level.Accepted v) = record { refusal = 0; level = v }
-level_of (level.Refused r) = record { refusal = number r; level = of_bits binary64 0 }
+abbrev pub level_of : Result Float Refusal → QiluvraitLevel
+level_of (Ok v) = record { refusal = 0; level = v }
+level_of (Err r) = record { refusal = number r; level = of_bits binary64 0 }
 
 -- ---- 1 and a run's two times, or 0 and zeros for no sound, or why there is no answer.
-abbrev pub run_of : Run → QiluvraitRun
-run_of (Sound s e) = record { refusal = 0; found = 1; start = s; end = e }
-run_of Nothing = record { refusal = 0; found = 0; start = of_bits binary64 0; end = of_bits binary64 0 }
+abbrev pub run_of : Option Times → QiluvraitRun
+run_of (Some w) = record { refusal = 0; found = 1; start = w.start; end = w.end }
+run_of None = record { refusal = 0; found = 0; start = of_bits binary64 0; end = of_bits binary64 0 }
 
-abbrev pub searched_of : Searched → QiluvraitRun
-searched_of (searched.Accepted r) = run_of r
-searched_of (searched.Refused r) = record { refusal = number r; found = 0; start = of_bits binary64 0; end = of_bits binary64 0 }
+abbrev pub searched_of : Result (Option Times) Refusal → QiluvraitRun
+searched_of (Ok r) = run_of r
+searched_of (Err r) = record { refusal = number r; found = 0; start = of_bits binary64 0; end = of_bits binary64 0 }
 
 -- ---- 0 where the times of words were moved, or why they were not; and the words afterwards.
-abbrev pub moved_of : Moved → ℕ
-moved_of moved.Accepted = 0
-moved_of (moved.Refused r) = number r
+abbrev pub moved_of : Rule → ℕ
+moved_of (Ok u) = 0
+moved_of (Err r) = number r
 
 pub record Reply : Type 0 where
   pub refusal : ℕ
@@ -86,9 +72,9 @@ unfoldable pub tallied_of : tally.Output → Tallied
 tallied_of o = tallied (moved_of o.answer) o.places
 
 -- ---- The words left and 1 where a loop was found, or why there is no answer; and the words afterwards.
-abbrev pub left_of : Collapsed → QiluvraitLeft
-left_of (collapsed.Accepted n found) = record { refusal = 0; found = cond found 1 0; count = n }
-left_of (collapsed.Refused r) = record { refusal = number r; found = 0; count = 0 }
+abbrev pub left_of : Result Left Refusal → QiluvraitLeft
+left_of (Ok left) = record { refusal = 0; found = cond left.found 1 0; count = left.count }
+left_of (Err r) = record { refusal = number r; found = 0; count = 0 }
 
 pub record Leaves : Type 0 where
   pub left : QiluvraitLeft
@@ -101,9 +87,9 @@ unfoldable pub leaves_of : loops.Output → Leaves
 leaves_of o = leaves (left_of o.answer) o.words
 
 -- ---- The number of words placed, or why there is none; and the words and the phrase places afterwards.
-abbrev pub placed_of : Placed → QiluvraitPlaced
-placed_of (placed.Accepted n) = record { refusal = 0; count = n }
-placed_of (placed.Refused r) = record { refusal = number r; count = 0 }
+abbrev pub placed_of : Result ℕ Refusal → QiluvraitPlaced
+placed_of (Ok n) = record { refusal = 0; count = n }
+placed_of (Err r) = record { refusal = number r; count = 0 }
 
 pub record Placement : Type 0 where
   pub placed : QiluvraitPlaced
@@ -117,9 +103,9 @@ unfoldable pub placement_of : phrases.Output → Placement
 placement_of o = placement (placed_of o.answer) o.words o.phrases
 
 -- ---- The report of a full run, or why there is none; and what the lent places hold.
-abbrev pub report_of : Ran → QiluvraitReport
-report_of (ran.Accepted r) = record { refusal = 0; found = cond r.found 1 0; pieces = r.pieces; words = r.words; floor = r.floor }
-report_of (ran.Refused r) = record { refusal = number r; found = 0; pieces = 0; words = 0; floor = of_bits binary64 0 }
+abbrev pub report_of : Result Report Refusal → QiluvraitReport
+report_of (Ok r) = record { refusal = 0; found = cond r.found 1 0; pieces = r.pieces; words = r.words; floor = r.floor }
+report_of (Err r) = record { refusal = number r; found = 0; pieces = 0; words = 0; floor = of_bits binary64 0 }
 
 pub record FullRun : Type 0 where
   pub report : QiluvraitReport

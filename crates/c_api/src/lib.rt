@@ -2,7 +2,7 @@
 // its arguments on to the function it names, and has that function's contract.
 #![tactic(auto)]
 
-ghost use Rattle.std.specs.Prelude.{◌≡◌, cond, length};
+ghost use Rattle.std.specs.Prelude.{◌≡◌, length};
 ghost use Rattle.std.specs.Float.{binary64};
 ghost use Rattle.js.specs.Js.{js_min, js_max, js_to_fixed};
 ghost use Rattle.roots.specs.Sqrt.{sqrt as sqrt_of};
@@ -24,6 +24,10 @@ ghost use Rattle.full_run.specs.FullRun.{input, full_run};
 ghost use Rattle.c_api.specs.Answers.{heard_of, cut_of, level_of, left_of, leaves, leaves_of, moved_of, reply, reply_of, placed_of, placement, placement_of};
 ghost use Rattle.c_api.specs.Answers.{report_of, full_run_with, full_run_of, run_of, searched_of, tallied, tallied_of, Unchanged};
 ghost use Rattle.frames.specs.Frames.{frame_at, frame_ceil, frame_from_zero, frame_seconds};
+
+use base::{Refusal, Times};
+use full_run::Report;
+use loops::Left;
 
 #[unsafe(no_mangle)]
 pub extern "C" fn qiluvrait_js_min(a: f64, b: f64) -> f64
@@ -89,16 +93,17 @@ pub struct QiluvraitHeard {
     pub floor: f64,
 }
 
-// An answer of envelope::envelope, as numbers.
-fn heard(answer: envelope::Answer) -> QiluvraitHeard
-    ensures { result ≡ heard_of answer }
-{
-    match answer {
-        envelope::Answer::Accepted(floor) => QiluvraitHeard { refusal: 0, floor },
-        envelope::Answer::Refused(why) => QiluvraitHeard {
-            refusal: base::number(why),
-            floor: 0.0,
-        },
+impl From<Result<f64, Refusal>> for QiluvraitHeard {
+    ghost from_gives = { λ answer numbers. numbers ≡ heard_of answer };
+
+    fn from(answer: Result<f64, Refusal>) -> QiluvraitHeard {
+        match answer {
+            Ok(floor) => QiluvraitHeard { refusal: 0, floor },
+            Err(why) => QiluvraitHeard {
+                refusal: u32::from(why),
+                floor: 0.0,
+            },
+        }
     }
 }
 
@@ -107,7 +112,7 @@ pub extern "C" fn qiluvrait_envelope(samples: &[f32], levels: &mut [f64]) -> Qil
     ensures { (result ≡ heard_of (envelope_call samples.now levels.old).answer)
         × (levels.new ≡ (envelope_call samples.now levels.old).places) }
 {
-    heard(envelope::envelope(samples, levels))
+    QiluvraitHeard::from(envelope::envelope(samples, levels))
 }
 
 #[unsafe(no_mangle)]
@@ -125,19 +130,17 @@ pub struct QiluvraitCut {
     pub pieces: usize,
 }
 
-// An answer of pieces::pieces_at, as numbers.
-fn cut(answer: pieces::Answer) -> QiluvraitCut
-    ensures { result ≡ cut_of answer }
-{
-    match answer {
-        pieces::Answer::Accepted(n) => QiluvraitCut {
-            refusal: 0,
-            pieces: n,
-        },
-        pieces::Answer::Refused(why) => QiluvraitCut {
-            refusal: base::number(why),
-            pieces: 0,
-        },
+impl From<Result<usize, Refusal>> for QiluvraitCut {
+    ghost from_gives = { λ answer numbers. numbers ≡ cut_of answer };
+
+    fn from(answer: Result<usize, Refusal>) -> QiluvraitCut {
+        match answer {
+            Ok(pieces) => QiluvraitCut { refusal: 0, pieces },
+            Err(why) => QiluvraitCut {
+                refusal: u32::from(why),
+                pieces: 0,
+            },
+        }
     }
 }
 
@@ -155,7 +158,7 @@ pub extern "C" fn qiluvrait_pieces(
         × (ends.new
         ≡ (pieces_call levels.now floor count starts.old ends.old).ends)) }
 {
-    cut(pieces::pieces_at(levels, floor, count, starts, ends))
+    QiluvraitCut::from(pieces::pieces_at(levels, floor, count, starts, ends))
 }
 
 // What qiluvrait_peak answers: refusal 0 and the level, or the number of the refusal.
@@ -166,16 +169,17 @@ pub struct QiluvraitLevel {
     pub level: f64,
 }
 
-// An answer of peak::peak, as numbers.
-fn level(answer: peak::Level) -> QiluvraitLevel
-    ensures { result ≡ level_of answer }
-{
-    match answer {
-        peak::Level::Accepted(level) => QiluvraitLevel { refusal: 0, level },
-        peak::Level::Refused(why) => QiluvraitLevel {
-            refusal: base::number(why),
-            level: 0.0,
-        },
+impl From<Result<f64, Refusal>> for QiluvraitLevel {
+    ghost from_gives = { λ answer numbers. numbers ≡ level_of answer };
+
+    fn from(answer: Result<f64, Refusal>) -> QiluvraitLevel {
+        match answer {
+            Ok(level) => QiluvraitLevel { refusal: 0, level },
+            Err(why) => QiluvraitLevel {
+                refusal: u32::from(why),
+                level: 0.0,
+            },
+        }
     }
 }
 
@@ -183,7 +187,7 @@ fn level(answer: peak::Level) -> QiluvraitLevel
 pub extern "C" fn qiluvrait_peak(samples: &[f32], start: f64, end: f64) -> QiluvraitLevel
     ensures { result ≡ level_of (peak_call samples.now start end) }
 {
-    level(peak::peak(samples, start, end))
+    QiluvraitLevel::from(peak::peak(samples, start, end))
 }
 
 // What qiluvrait_collapse_loops answers: refusal 0, the words left and 1 where a loop was found, or the number of the refusal.
@@ -195,31 +199,22 @@ pub struct QiluvraitLeft {
     pub count: usize,
 }
 
-// 1 for yes, 0 for no.
-fn one_if(yes: bool) -> u32
-    ensures { result ≡ cond yes 1 0 }
-{
-    if yes {
-        return 1;
-    }
-    0
-}
+impl From<Result<Left, Refusal>> for QiluvraitLeft {
+    ghost from_gives = { λ answer numbers. numbers ≡ left_of answer };
 
-// An answer of loops::collapse_loops, as numbers.
-fn left(answer: loops::Answer) -> QiluvraitLeft
-    ensures { result ≡ left_of answer }
-{
-    match answer {
-        loops::Answer::Accepted(count, found) => QiluvraitLeft {
-            refusal: 0,
-            found: one_if(found),
-            count,
-        },
-        loops::Answer::Refused(why) => QiluvraitLeft {
-            refusal: base::number(why),
-            found: 0,
-            count: 0,
-        },
+    fn from(answer: Result<Left, Refusal>) -> QiluvraitLeft {
+        match answer {
+            Ok(left) => QiluvraitLeft {
+                refusal: 0,
+                found: u32::from(left.found),
+                count: left.count,
+            },
+            Err(why) => QiluvraitLeft {
+                refusal: u32::from(why),
+                found: 0,
+                count: 0,
+            },
+        }
     }
 }
 
@@ -236,16 +231,16 @@ pub extern "C" fn qiluvrait_collapse_loops(
         leaves result after ≡ leaves_of (collapse_call before) }
 {
     let answer = loops::collapse_loops(starts, ends, letters, units, keys);
-    left(answer)
+    QiluvraitLeft::from(answer)
 }
 
 // An answer of a stage that moves the times of words, as a number: 0, or the refusal's.
-fn moved(answer: limits::Answer) -> u32
+fn moved(answer: Result<(), Refusal>) -> u32
     ensures { result ≡ moved_of answer }
 {
     match answer {
-        limits::Answer::Accepted => 0,
-        limits::Answer::Refused(why) => base::number(why),
+        Ok(()) => 0,
+        Err(why) => u32::from(why),
     }
 }
 
@@ -317,16 +312,17 @@ pub struct QiluvraitPlaced {
     pub count: usize,
 }
 
-// An answer of phrase_align::align_phrases, as numbers.
-fn placed(answer: phrase_align::Answer) -> QiluvraitPlaced
-    ensures { result ≡ placed_of answer }
-{
-    match answer {
-        phrase_align::Answer::Accepted(count) => QiluvraitPlaced { refusal: 0, count },
-        phrase_align::Answer::Refused(why) => QiluvraitPlaced {
-            refusal: base::number(why),
-            count: 0,
-        },
+impl From<Result<usize, Refusal>> for QiluvraitPlaced {
+    ghost from_gives = { λ answer numbers. numbers ≡ placed_of answer };
+
+    fn from(answer: Result<usize, Refusal>) -> QiluvraitPlaced {
+        match answer {
+            Ok(count) => QiluvraitPlaced { refusal: 0, count },
+            Err(why) => QiluvraitPlaced {
+                refusal: u32::from(why),
+                count: 0,
+            },
+        }
     }
 }
 
@@ -358,7 +354,7 @@ pub extern "C" fn qiluvrait_align_phrases(
         counts,
         phrases,
     );
-    placed(answer)
+    QiluvraitPlaced::from(answer)
 }
 
 #[unsafe(no_mangle)]
@@ -388,38 +384,40 @@ pub struct QiluvraitRun {
     pub end: f64,
 }
 
-// A run of sound, as numbers.
-fn run(r: last_run::Run) -> QiluvraitRun
-    ensures { result ≡ run_of r }
-{
-    match r {
-        last_run::Run::Sound(start, end) => QiluvraitRun {
-            refusal: 0,
-            found: 1,
-            start,
-            end,
-        },
-        last_run::Run::Nothing => QiluvraitRun {
-            refusal: 0,
-            found: 0,
-            start: 0.0,
-            end: 0.0,
-        },
+impl From<Option<Times>> for QiluvraitRun {
+    ghost from_gives = { λ run numbers. numbers ≡ run_of run };
+
+    fn from(run: Option<Times>) -> QiluvraitRun {
+        match run {
+            Some(w) => QiluvraitRun {
+                refusal: 0,
+                found: 1,
+                start: w.start,
+                end: w.end,
+            },
+            None => QiluvraitRun {
+                refusal: 0,
+                found: 0,
+                start: 0.0,
+                end: 0.0,
+            },
+        }
     }
 }
 
-// An answer of last_run::last_run_at, as numbers.
-fn searched(answer: last_run::Answer) -> QiluvraitRun
-    ensures { result ≡ searched_of answer }
-{
-    match answer {
-        last_run::Answer::Accepted(r) => run(r),
-        last_run::Answer::Refused(why) => QiluvraitRun {
-            refusal: base::number(why),
-            found: 0,
-            start: 0.0,
-            end: 0.0,
-        },
+impl From<Result<Option<Times>, Refusal>> for QiluvraitRun {
+    ghost from_gives = { λ answer numbers. numbers ≡ searched_of answer };
+
+    fn from(answer: Result<Option<Times>, Refusal>) -> QiluvraitRun {
+        match answer {
+            Ok(run) => QiluvraitRun::from(run),
+            Err(why) => QiluvraitRun {
+                refusal: u32::from(why),
+                found: 0,
+                start: 0.0,
+                end: 0.0,
+            },
+        }
     }
 }
 
@@ -433,7 +431,7 @@ pub extern "C" fn qiluvrait_last_run(
 ) -> QiluvraitRun
     ensures { result ≡ searched_of (last_run_call levels.now floor count from to) }
 {
-    searched(last_run::last_run_at(levels, floor, count, from, to))
+    QiluvraitRun::from(last_run::last_run_at(levels, floor, count, from, to))
 }
 
 #[unsafe(no_mangle)]
@@ -517,25 +515,26 @@ pub struct QiluvraitReport {
     pub floor: f64,
 }
 
-// An answer of full_run::full_run, as numbers.
-fn reported(answer: full_run::Answer) -> QiluvraitReport
-    ensures { result ≡ report_of answer }
-{
-    match answer {
-        full_run::Answer::Accepted(report) => QiluvraitReport {
-            refusal: 0,
-            found: one_if(report.found),
-            pieces: report.pieces,
-            words: report.words,
-            floor: report.floor,
-        },
-        full_run::Answer::Refused(why) => QiluvraitReport {
-            refusal: base::number(why),
-            found: 0,
-            pieces: 0,
-            words: 0,
-            floor: 0.0,
-        },
+impl From<Result<Report, Refusal>> for QiluvraitReport {
+    ghost from_gives = { λ answer numbers. numbers ≡ report_of answer };
+
+    fn from(answer: Result<Report, Refusal>) -> QiluvraitReport {
+        match answer {
+            Ok(report) => QiluvraitReport {
+                refusal: 0,
+                found: u32::from(report.found),
+                pieces: report.pieces,
+                words: report.words,
+                floor: report.floor,
+            },
+            Err(why) => QiluvraitReport {
+                refusal: u32::from(why),
+                found: 0,
+                pieces: 0,
+                words: 0,
+                floor: 0.0,
+            },
+        }
     }
 }
 
@@ -589,7 +588,7 @@ pub extern "C" fn qiluvrait_full_run(
         work_ends,
         work_letters,
     );
-    reported(answer)
+    QiluvraitReport::from(answer)
 }
 
 #[unsafe(no_mangle)]

@@ -1,8 +1,8 @@
 -- Every case of the table, and the further sentences, by computing the definitions. Assumes nothing.
+use Rattle.std.specs.Prelude.{Some}
 use Prim.Native.Nat.{ℕ, ◌*◌}
 use mathlib.Core.Path.{◌≡◌, refl, ap}
 use mathlib.Core.List.{[], ◌∷◌, ◌++◌}
-use mathlib.Core.Option.{some}
 use mathlib.Core.Bool.{true, false}
 use lib.Count.{count_trailing_zeros}
 use lib.ListN.{replicate}
@@ -19,7 +19,7 @@ use Rattle.ends.specs.Ends.{last_loud, sound_end, next_start, is_pair, pair_star
 use Rattle.share.specs.Share as shares
 use Rattle.spread.specs.Spread as spreads
 use Rattle.even.specs.Even as even
-use Rattle.last_run.specs.LastRun.{ends_between, frames_of, frame_run, last_run, times as run_times}
+use Rattle.last_run.specs.LastRun.{ends_between, frames_of, frame_run, last_run}
 use Rattle.fit_file.specs.FitFile.{inside_span}
 use Rattle.cases.specs.Table.{Table, Sentences, double, zero, keys_left}
 
@@ -44,7 +44,7 @@ edge-shared : snap_ends (replicate 30 false) (double false 30 100) (3 ∷ 3 ∷ 
 unfolding snap_ends end_turn set_pair next_start is_pair pair_of pair_start pair_edge end_of reach or_duration trimmed sound_end last_loud each run frame_at floor_i64 frame_seconds js_min js_max js_to_fixed nearest_up under is_nan add sub neg sum mul div lt le eq of_int round size span climb units odd of_bits of_fields count_trailing_zeros
 edge-shared = refl
 
-pause-bridged : run_times (last_run (replicate 4 true ++ (replicate 15 false ++ replicate 4 true)) (zero false) (double false 23 100)) ≡ some (zero false, double false 23 100)
+pause-bridged : last_run (replicate 4 true ++ (replicate 15 false ++ replicate 4 true)) (zero false) (double false 23 100) ≡ Some (times (zero false) (double false 23 100))
 unfolding last_run frame_run ends_between frames_of run_back frame_from_zero frame_at floor_i64 frame_seconds mul div of_int round size span climb units odd of_bits of_fields count_trailing_zeros
 pause-bridged = refl
 

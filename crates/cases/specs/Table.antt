@@ -1,8 +1,7 @@
 -- The table of document 01's cases marked ●, each as it stands there, and examples for sentences without one. Assumes nothing.
-use Rattle.std.specs.Prelude.{ℕ, ◌+◌, ◌-◌, ◌*◌, Bool, true, false, ◌≡◌, pos, Float, List, [], ◌∷◌, ◌++◌, replicate}
+use Rattle.std.specs.Prelude.{ℕ, ◌+◌, ◌-◌, ◌*◌, Bool, true, false, ◌≡◌, pos, Float, List, [], ◌∷◌, ◌++◌, replicate, Some}
 use Rattle.std.specs.Float.{fin, binary64}
 use Rattle.std.specs.Float.Ieee.{round, of_bits}
-use Rattle.std.proofs.Math.Option.{some}
 use Rattle.base.specs.Words.{words, edges, times}
 use Rattle.js.specs.Js.{js_to_fixed}
 use Rattle.envelope.specs.Envelope.{hop, level, quiet_row}
@@ -11,7 +10,7 @@ use Rattle.loops.specs.Loops.{collapse_loops}
 use Rattle.ends.specs.Ends.{snap_ends}
 use Rattle.spread.specs.Spread.{place_group}
 use Rattle.even.specs.Even.{even_out}
-use Rattle.last_run.specs.LastRun.{last_run, times as run_times}
+use Rattle.last_run.specs.LastRun.{last_run}
 use Rattle.fit_file.specs.FitFile.{inside_span}
 
 -- ---- The double that a decimal number stands for: the nearest to n / d, with a sign.
@@ -53,8 +52,8 @@ pub record Table : Type 0 where
       (edges (double false 10 100 ∷ double false 13 100 ∷ []) (double false 12 100 ∷ double false 20 100 ∷ []))
       ≡ edges (double false 10 100 ∷ double false 16 100 ∷ []) (double false 16 100 ∷ double false 20 100 ∷ [])
   -- Evening and fitting: "Loud 0 to 3 and 19 to 22, from 0 to 0.23: ● last run (0, 0.23)."
-  pub pause-bridged : run_times (last_run (replicate 4 true ++ (replicate 15 false ++ replicate 4 true)) (zero false) (double false 23 100))
-      ≡ some (zero false, double false 23 100)
+  pub pause-bridged : last_run (replicate 4 true ++ (replicate 15 false ++ replicate 4 true)) (zero false) (double false 23 100)
+      ≡ Some (times (zero false) (double false 23 100))
 
 -- ---- Sentences of document 01 that bear no ●, each with an example of ours: letters, then the words' starts and ends.
 pub record Sentences : Type 0 where

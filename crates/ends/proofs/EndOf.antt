@@ -1,4 +1,5 @@
 -- A word that is no pair: its times, by what the code's parts give. Assumes nothing.
+use Rattle.std.specs.Prelude.{Option}
 use Prim.Native.Nat.{ℕ, ◌≤◌, ◌^◌, min}
 use mathlib.Core.List.{List}
 use mathlib.Core.Path.{◌≡◌, sym, ap, ◌∙◌}
@@ -8,15 +9,13 @@ use lib.Ieee.{Float}
 use Rattle.base.specs.Words.{edge_quiet}
 use Rattle.base.specs.Whole.{to_nat}
 use Rattle.base.specs.declared.Times.{Times}
-use Rattle.base.specs.declared.NextStart.{NextStart}
-use Rattle.base.specs.declared.SoundEnd.{SoundEnd}
 use Rattle.frames.specs.Frames.{frame_at}
 use Rattle.envelope.specs.Envelope.{loud_row}
 use Rattle.ends.specs.Ends.{last_loud, sound_end, reach, or_duration, trimmed, end_of}
 use Rattle.ends.proofs.SoundEnds.{last_loud-is}
 
-module _ (floor : Float) (levels : List Float) (short : length levels ≤ 2 ^ 40) (duration : Float) (next : NextStart) (w : Times) where
-  pub end_of_is : {lo hi past : ℕ} {s : SoundEnd} {limit : Float} {r : Times} → lo ≡ min (to_nat (frame_at w.start)) (2 ^ 40)
+module _ (floor : Float) (levels : List Float) (short : length levels ≤ 2 ^ 40) (duration : Float) (next : Option Float) (w : Times) where
+  pub end_of_is : {lo hi past : ℕ} {s : Option Float} {limit : Float} {r : Times} → lo ≡ min (to_nat (frame_at w.start)) (2 ^ 40)
       → hi ≡ min (length levels) (min (to_nat (frame_at (reach next duration w.start))) (2 ^ 40))
       → pos past ≡ suc_ℤ (last_loud edge_quiet (loud_row floor levels) (pos lo) (pos hi)) → s ≡ sound_end (pred_ℤ (pos past))
       → limit ≡ or_duration next duration → r ≡ trimmed s limit w → r ≡ end_of (loud_row floor levels) duration next w

@@ -4,7 +4,7 @@ use Prim.Native.Nat.{ℕ, zero, suc, ◌+◌, ◌-◌, ◌<◌, ◌≤◌}
 use mathlib.Core.Bool.{Bool, true, false, cond, true≢false}
 use mathlib.Core.List.{List}
 use mathlib.Core.Logic.{◌↔◌}
-use mathlib.Core.Option.{none, some}
+use Rattle.std.specs.Prelude.{Some, None}
 use mathlib.Core.Path.{◌≡◌, refl, sym, ap, ◌∙◌, subst}
 use native.Mathlib.Omega.{arith}
 use borrow.Author.Tests.{ltb-true, ltb-false, lt-ltb, le-ltb, leb-true, leb-false}
@@ -15,30 +15,29 @@ use lib.ListN.{length, get_or}
 use lib.Ieee.{Float, nan}
 use Rattle.base.specs.Whole.{to_nat}
 use Rattle.base.specs.Loop.{Turn, on, out, run}
-use Rattle.base.specs.Refusals.{start_value, end_value}
 use Rattle.base.proofs.Loops.{run_out}
 use Rattle.envelope.specs.Envelope.{loud}
 use Rattle.ends.specs.Ends.{next_start, Last, last_turn, last_loud, sound_end}
 use Rattle.ends.proofs.SoundEnds.{and-false, and-true, last_loud-nat}
 
 -- a value is there, or none is
-some-none : {A B : Type 0} {x : A} → some x ≡ none → B
+some-none : {A B : Type 0} {x : A} → Some x ≡ None → B
 some-none h = absurd (let z : ◌≡◌ {A = ℕ} 0 1 = cc in omega arith)
 
 -- ======== The next start.
 
 module _ (starts : List Float) (i : ℕ) where
   -- ---- where there is a word after word i, its start
-  pub next-is : i + 1 < length starts → start_value (next_start starts i) ≡ some (get_or starts (i + 1) nan)
+  pub next-is : i + 1 < length starts → next_start starts i ≡ Some (get_or starts (i + 1) nan)
   unfolding next_start
   next-is h = rw (lt-ltb (i + 1) (length starts) h)
 
   -- ---- and none exactly where there is no such word
-  pub no-next-exactly : (length starts ≤ i + 1) ↔ (start_value (next_start starts i) ≡ none)
+  pub no-next-exactly : (length starts ≤ i + 1) ↔ (next_start starts i ≡ None)
   unfolding next_start
   no-next-exactly = ((λ h. rw (le-ltb (i + 1) (length starts) h)), from)
     where
-      from : start_value (next_start starts i) ≡ none → length starts ≤ i + 1
+      from : next_start starts i ≡ None → length starts ≤ i + 1
       from h = go (ltb (i + 1) (length starts)) refl where
         go : (b : Bool) → ltb (i + 1) (length starts) ≡ b → length starts ≤ i + 1
         go true e = some-none (sym (next-is (ltb-true (i + 1) (length starts) e)) ∙ h)
@@ -115,19 +114,19 @@ module _ (edge : ℕ) (row : List Bool) where
     unfolding after
     last-is = last_loud-nat edge row a b
 
-    no_end : (l : ℤ) → non_neg l ≡ true → end_value (sound_end l) ≡ none → ⊥
+    no_end : (l : ℤ) → non_neg l ≡ true → sound_end l ≡ None → ⊥
     unfolding sound_end
     no_end (pos m) n h = some-none (rw (le-ltb m 0 (omega arith)) at h)
     no_end (negsuc m) n h = true≢false (sym n)
 
-    pub no-end-exactly : ((j : ℕ) → to_nat a ≤ j → j < to_nat b → loud row (pos j) ≡ false) ↔ (end_value (sound_end (last_loud edge row a b)) ≡ none)
+    pub no-end-exactly : ((j : ℕ) → to_nat a ≤ j → j < to_nat b → loud row (pos j) ≡ false) ↔ (sound_end (last_loud edge row a b) ≡ None)
     unfolding sound_end
     no-end-exactly = (to, from)
       where
-        to : ((j : ℕ) → to_nat a ≤ j → j < to_nat b → loud row (pos j) ≡ false) → end_value (sound_end (last_loud edge row a b)) ≡ none
+        to : ((j : ℕ) → to_nat a ≤ j → j < to_nat b → loud row (pos j) ≡ false) → sound_end (last_loud edge row a b) ≡ None
         to quiet = rw (last-is ∙ unmet (to_nat b - to_nat a) (to_nat a) 0 (λ (j : ℕ) (l : to_nat a ≤ j) (h : j < to_nat a + (to_nat b - to_nat a)). quiet j l (omega arith)))
 
-        from : end_value (sound_end (last_loud edge row a b)) ≡ none → (j : ℕ) → to_nat a ≤ j → j < to_nat b → loud row (pos j) ≡ false
+        from : sound_end (last_loud edge row a b) ≡ None → (j : ℕ) → to_nat a ≤ j → j < to_nat b → loud row (pos j) ≡ false
         from h j l g = go (loud row (pos j)) refl where
           go : (t : Bool) → loud row (pos j) ≡ t → loud row (pos j) ≡ false
           go false e = e

@@ -1,5 +1,6 @@
 -- The last loud frame before a silence: the code keeps the frame past it, from which the loop's two numbers follow, and so it needs no count of
 -- quiet frames; from there it looks back from the last frame that may go on with the sound; frames below zero change nothing. Assumes nothing.
+use Rattle.std.specs.Prelude.{Some, None}
 use Prim.Native.Nat.{ℕ, zero, suc, ◌+◌, ◌-◌, ◌<◌, ◌≤◌, ◌^◌, min, max}
 use mathlib.Core.Bool.{Bool, true, false, cond, ◌&&◌}
 use mathlib.Core.List.{List}
@@ -13,7 +14,6 @@ use lib.ListN.{length}
 use lib.Ieee.{Float}
 use Rattle.base.specs.Whole.{to_nat, min_z}
 use Rattle.base.specs.Loop.{on, out, run}
-use Rattle.base.specs.declared.SoundEnd.TheVariants.{Ends, NoSound}
 use Rattle.base.proofs.Loops.{advance, range-nat, run-start, run-stop, run-next, run-done}
 use Rattle.frames.specs.Frames.{frame_seconds}
 use Rattle.frames.proofs.Indices.{min_z-index}
@@ -220,11 +220,11 @@ module _ (edge : ℕ) (row : List Bool) where
   sound-over past hi h e = search-done hi past past h e
 
 -- ---- where the sound ends, by the frame past it
-pub sound_none : (past : ℕ) → past ≡ 0 → NoSound ≡ sound_end (pred_ℤ (pos past))
+pub sound_none : (past : ℕ) → past ≡ 0 → None ≡ sound_end (pred_ℤ (pos past))
 unfolding sound_end
 sound_none past z = rw z
 
-pub sound-some : {s : Float} (past : ℕ) → (past ≡ 0 → ⊥) → s ≡ frame_seconds (pos past) → Ends s ≡ sound_end (pred_ℤ (pos past))
+pub sound-some : {s : Float} (past : ℕ) → (past ≡ 0 → ⊥) → s ≡ frame_seconds (pos past) → Some s ≡ sound_end (pred_ℤ (pos past))
 unfolding sound_end
 sound-some zero n e = absurd (n refl)
 sound-some (suc p) n e = rw (le-ltb p 0 (omega arith), add-one p, e)

@@ -1,4 +1,5 @@
 -- One word's turn: what is stored. Assumes nothing.
+use Rattle.std.specs.Prelude.{Option}
 use Prim.Native.Nat.{ℕ, ◌+◌}
 use mathlib.Core.Bool.{Bool, true, false}
 use mathlib.Core.List.{List}
@@ -8,19 +9,18 @@ use lib.Seq.{set-get_or}
 use lib.Ieee.{Float, nan}
 use Rattle.base.specs.Words.{Edges, edges, times}
 use Rattle.base.specs.declared.Times.{Times}
-use Rattle.base.specs.declared.NextStart.{NextStart}
 use Rattle.ends.specs.Ends.{next_start, is_pair, pair_of, end_of, end_turn, set_pair}
 use Rattle.ends.proofs.OneWord.{trim_start}
 
 -- ---- what is stored
 module _ (row : List Bool) (duration : Float) (units : List ℕ) (i : ℕ) (starts ends : List Float) where
-  pub turn-pair : {next : NextStart} {t : Times} {es : Edges} → next ≡ next_start starts i → is_pair next (times (get_or starts i nan) (get_or ends i nan)) ≡ true
+  pub turn-pair : {next : Option Float} {t : Times} {es : Edges} → next ≡ next_start starts i → is_pair next (times (get_or starts i nan) (get_or ends i nan)) ≡ true
       → t ≡ pair_of row (times (get_or starts i nan) (get_or ends i nan)) (get_or ends (i + 1) nan) (get_or units i 0) (get_or units (i + 1) 0) → es ≡ set_pair (edges starts ends) i t
       → es ≡ end_turn row duration units i (edges starts ends)
   unfolding end_turn set_pair
   turn-pair en p et es = es ∙ rw (← en, p, et)
 
-  pub turn_end : {next : NextStart} {t : Times} → next ≡ next_start starts i → is_pair next (times (get_or starts i nan) (get_or ends i nan)) ≡ false
+  pub turn_end : {next : Option Float} {t : Times} → next ≡ next_start starts i → is_pair next (times (get_or starts i nan) (get_or ends i nan)) ≡ false
       → t ≡ end_of row duration next (times (get_or starts i nan) (get_or ends i nan)) → edges starts (set ends i t.end) ≡ end_turn row duration units i (edges starts ends)
   unfolding end_turn end_of
   turn_end {next} {t} en p et =

@@ -1,19 +1,15 @@
 -- onsets.rs, snap_ends, line by line. A `row` says which frames are loud; frames are whole numbers, as there. Assumes nothing.
-use Rattle.std.specs.Prelude.{ℕ, ◌+◌, Bool, cond, ◌&&◌, false, ◌||◌, List, leb, ltb, ℤ, pos, negsuc, ◌+ℤ◌, get_or, length, set, Float}
+use Rattle.std.specs.Prelude.{ℕ, ◌+◌, Bool, cond, ◌&&◌, false, ◌||◌, List, leb, ltb, ℤ, pos, negsuc, ◌+ℤ◌, get_or, length, set, Float, Option, Some, None}
 use Rattle.std.specs.Int.Signed.{lt_z, non_neg}
 use Rattle.std.specs.Float.{nan, binary64}
 use Rattle.std.specs.Float.Ieee.{of_bits, lt}
 use Rattle.base.specs.Loop.{Turn, on, out, range, each}
-use Rattle.base.specs.declared.SoundEnd.{SoundEnd}
-use Rattle.base.specs.declared.SoundEnd.TheVariants.{Ends, NoSound}
 use Rattle.frames.specs.Frames.{frame_seconds, frame_at}
 use Rattle.envelope.specs.Envelope.{loud, loud_row}
 use Rattle.base.specs.Whole.{min_z}
 use Rattle.base.specs.Floats.{◌⊕◌, ◌⊖◌, ◌⊗◌, ◌⊘◌, num}
 use Rattle.base.specs.Words.{times, edge_quiet, loose, Words, Edges, edges, times_at, set_times}
 use Rattle.base.specs.declared.Times.{Times}
-use Rattle.base.specs.declared.NextStart.{NextStart}
-use Rattle.base.specs.declared.NextStart.TheVariants.{Starts, NoNext}
 use Rattle.js.specs.Js.{js_min, js_max, js_to_fixed}
 use Rattle.word_calls.specs.Calls.{timed_rule, Output, moved}
 
@@ -28,15 +24,15 @@ abbrev pub pair_span : Float
 pair_span = of_bits binary64 0x3fbe_b851_eb85_1eb8
 
 -- ---- tail.first_mut(), next.map(|n| n.start): where the word after word i starts, if there is one.
-unfoldable pub next_start : List Float → ℕ → NextStart
-next_start starts i = cond (ltb (i + 1) (length starts)) (Starts (get_or starts (i + 1) nan)) NoNext
+unfoldable pub next_start : List Float → ℕ → Option Float
+next_start starts i = cond (ltb (i + 1) (length starts)) (Some (get_or starts (i + 1) nan)) None
 
 -- ---- w.end - w.start < NO_LENGTH && let Some(n) = next.as_deref_mut() && n.start - w.start < NO_LENGTH
-abbrev pub soon : NextStart → Times → Bool
-soon (Starts s) w = lt (s ⊖ w.start) no_length
-soon NoNext w = false
+abbrev pub soon : Option Float → Times → Bool
+soon (Some s) w = lt (s ⊖ w.start) no_length
+soon None w = false
 
-unfoldable pub is_pair : NextStart → Times → Bool
+unfoldable pub is_pair : Option Float → Times → Bool
 is_pair next w = lt (w.end ⊖ w.start) no_length && soon next w
 
 -- ---- if let Some(k) = (frame_at(w.start)..stop).find(|&k| env.loud(k)) { w.start = js_max(w.start, frame_seconds(k)); }
@@ -64,9 +60,9 @@ set_pair es i t = edges (set (set es.starts i t.start) (i + 1) t.end) (set es.en
 -- ======== Any other word: its end, by its sound.
 
 -- ---- next_start.map_or(duration, |s| js_max(s, w.start)): how far the sound is looked for.
-unfoldable pub reach : NextStart → Float → Float → Float
-reach (Starts s) duration start = js_max s start
-reach NoNext duration start = duration
+unfoldable pub reach : Option Float → Float → Float → Float
+reach (Some s) duration start = js_max s start
+reach None duration start = duration
 
 -- ---- if env.loud(k) { last = k; quiet = 0; } else { quiet += 1; if quiet >= EDGE_QUIET && last >= 0 { break; } }
 pub record Last : Type 0 where
@@ -83,23 +79,23 @@ unfoldable pub last_loud : ℕ → List Bool → ℤ → ℤ → ℤ
 last_loud edge row a bound = (range (last_turn edge row) a bound (record { last = negsuc 0; quiet = 0 })).last
 
 -- ---- if last < 0 { continue; } let sound_end = frame_seconds(last + 1);
-unfoldable pub sound_end : ℤ → SoundEnd
-sound_end last = cond (lt_z last (pos 0)) NoSound (Ends (frame_seconds (last +ℤ pos 1)))
+unfoldable pub sound_end : ℤ → Option Float
+sound_end last = cond (lt_z last (pos 0)) None (Some (frame_seconds (last +ℤ pos 1)))
 
 -- ---- next_start.unwrap_or(duration)
-unfoldable pub or_duration : NextStart → Float → Float
-or_duration (Starts s) duration = s
-or_duration NoNext duration = duration
+unfoldable pub or_duration : Option Float → Float → Float
+or_duration (Some s) duration = s
+or_duration None duration = duration
 
 -- ---- if w.end > sound_end + LOOSE || w.end - w.start < NO_LENGTH
 -- { w.end = js_max(w.start + NO_LENGTH, js_min(sound_end, next_start.unwrap_or(duration))); }, where `limit` is that start or duration.
-unfoldable pub trimmed : SoundEnd → Float → Times → Times
-trimmed NoSound limit w = w
-trimmed (Ends sound) limit w =
+unfoldable pub trimmed : Option Float → Float → Times → Times
+trimmed None limit w = w
+trimmed (Some sound) limit w =
     cond (lt (sound ⊕ loose) w.end || lt (w.end ⊖ w.start) no_length) (times w.start (js_max (w.start ⊕ no_length) (js_min sound limit))) w
 
 -- ---- let bound = env.frames().min(frame_at(next_start.map_or(duration, ..)));
-unfoldable pub end_of : List Bool → Float → NextStart → Times → Times
+unfoldable pub end_of : List Bool → Float → Option Float → Times → Times
 end_of row duration next w =
     let bound = min_z (pos (length row)) (frame_at (reach next duration w.start)) in
     trimmed (sound_end (last_loud edge_quiet row (frame_at w.start) bound)) (or_duration next duration) w

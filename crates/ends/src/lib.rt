@@ -7,14 +7,14 @@ ghost use Rattle.envelope.specs.Envelope.{loud_row};
 ghost use Rattle.word_calls.specs.Calls.{output};
 ghost use Rattle.ends.specs.Ends.{end_turn, snap_ends, ends_call, set_pair};
 
-use base::{Rule, Times};
-use limits::Answer;
+use base::{Refusal, Times};
 
 pub mod one_word;
 pub mod sound;
 pub mod view;
 
 // Stores the times of the first of two words, and the edge as the second's start.
+#[tactic(auto, unfolding(crate::specs::Ends::set_pair))]
 fn set_pair(starts: &mut [f64], ends: &mut [f64], i: usize, t: Times)
     requires { (i + 1 < length starts.old) × (length ends.old ≡ length starts.old) }
     ensures { edges starts.new ends.new ≡ set_pair (edges starts.old ends.old) i t }
@@ -69,10 +69,8 @@ pub fn move_ends(
         let after = edges starts.new ends.new in
         after ≡ snap_ends (loud_row floor levels.now) duration units.now before }
 {
-    let mut i = 0;
-    while i < starts.len() {
+    for i in 0..starts.len() {
         snap_end(starts, ends, units, levels, floor, duration, i);
-        i += 1;
     }
 }
 
@@ -87,12 +85,12 @@ pub fn snap_ends(
     units: &[u32],
     keys: &[u32],
     duration: f64,
-) -> Answer
+) -> Result<(), Refusal>
     ensures { let before = words starts.old ends.old letters.now units.now keys.now in
         let after = words starts.new ends.new letters.now units.now keys.now in
         output result after ≡ ends_call before levels.now floor count duration }
 {
-    let rule = word_calls::timed_rule(
+    word_calls::timed_rule(
         starts,
         ends,
         letters,
@@ -101,12 +99,7 @@ pub fn snap_ends(
         levels.len(),
         count,
         duration,
-    );
-    match rule {
-        Rule::Breaks(why) => Answer::Refused(why),
-        Rule::Fine => {
-            move_ends(starts, ends, units, levels, floor, duration);
-            Answer::Accepted
-        }
-    }
+    )?;
+    move_ends(starts, ends, units, levels, floor, duration);
+    Ok(())
 }

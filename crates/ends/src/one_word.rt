@@ -3,9 +3,8 @@ ghost use Rattle.std.specs.Prelude.{◌≡◌, ◌+◌, ◌<◌, ◌≤◌, ◌^
 ghost use Rattle.envelope.specs.Envelope.{loud_row};
 ghost use Rattle.ends.specs.Ends.{next_start, soon as soon_of, is_pair, pair_start, pair_edge, pair_of, reach as reach_of, or_duration, trimmed, end_of};
 ghost use Rattle.ends.specs.Parts.{is_loose};
-ghost use Rattle.base.specs.declared.SoundEnd.TheVariants.{Ends};
 
-use base::{NextStart, SoundEnd, Times};
+use base::Times;
 
 // A shorter word, in seconds, is too short to be one.
 const NO_LENGTH: f64 = 0.06;
@@ -17,18 +16,17 @@ const LOOSE: f64 = 0.05;
 const EDGE_QUIET: usize = 8;
 
 // An end that is loose, or a word that is too short.
+#[tactic(auto, unfolding(crate::specs::Parts::is_loose))]
 fn is_loose(sound: f64, w: Times) -> bool
     ensures { result ≡ is_loose sound w }
 {
-    if w.end > sound + LOOSE {
-        return true;
-    }
-    w.end - w.start < NO_LENGTH
+    w.end > sound + LOOSE || w.end - w.start < NO_LENGTH
 }
 
 // A word's times, its end moved to the end of its sound at `sound`, where it is loose.
+#[tactic(auto, unfolding(crate::specs::Ends::trimmed, crate::specs::Parts::is_loose))]
 fn trim_to(sound: f64, limit: f64, w: Times) -> Times
-    ensures { result ≡ trimmed (Ends sound) limit w }
+    ensures { result ≡ trimmed (Some sound) limit w }
 {
     if is_loose(sound, w) {
         return Times {
@@ -40,45 +38,40 @@ fn trim_to(sound: f64, limit: f64, w: Times) -> Times
 }
 
 // A word's times, its end moved to the end of its sound, where there is one.
-fn trim(sound: SoundEnd, limit: f64, w: Times) -> Times
+fn trim(sound: Option<f64>, limit: f64, w: Times) -> Times
     ensures { result ≡ trimmed sound limit w }
 {
     match sound {
-        SoundEnd::NoSound => w,
-        SoundEnd::Ends(s) => trim_to(s, limit, w),
+        None => w,
+        Some(s) => trim_to(s, limit, w),
     }
 }
 
 // How far a word's sound is looked for: to the next word's start, and at least to its own; to the duration after the last word.
-fn reach(next: NextStart, duration: f64, start: f64) -> f64
+#[tactic(auto, unfolding(crate::specs::Ends::reach))]
+fn reach(next: Option<f64>, duration: f64, start: f64) -> f64
     ensures { result ≡ reach_of next duration start }
 {
-    match next {
-        NextStart::Starts(s) => js::js_max(s, start),
-        NextStart::NoNext => duration,
-    }
+    next.map_or(duration, |s| js::js_max(s, start))
 }
 
 // The next word's start, or the duration after the last word.
-pub fn or_duration(next: NextStart, duration: f64) -> f64
+#[tactic(auto, unfolding(crate::specs::Ends::or_duration))]
+pub fn or_duration(next: Option<f64>, duration: f64) -> f64
     ensures { result ≡ or_duration next duration }
 {
-    match next {
-        NextStart::Starts(s) => s,
-        NextStart::NoNext => duration,
-    }
+    next.unwrap_or(duration)
 }
 
 // A word that is no pair with the next: its times, with its end by its sound.
-pub fn end_of(levels: &[f64], floor: f64, duration: f64, next: NextStart, w: Times) -> Times
+pub fn end_of(levels: &[f64], floor: f64, duration: f64, next: Option<f64>, w: Times) -> Times
     requires { length levels.now ≤ 2 ^ 40 }
     ensures { result ≡ end_of (loud_row floor levels.now) duration next w }
 {
     let lo = frames::frame_index(w.start);
-    let hi = base::least(
-        levels.len(),
-        frames::frame_index(reach(next, duration, w.start)),
-    );
+    let hi = levels
+        .len()
+        .min(frames::frame_index(reach(next, duration, w.start)));
     let past = super::sound::last_loud(levels, floor, EDGE_QUIET, lo, hi);
     trim(
         super::sound::sound_end(past),
@@ -88,34 +81,27 @@ pub fn end_of(levels: &[f64], floor: f64, duration: f64, next: NextStart, w: Tim
 }
 
 // Where the word after word i starts, if there is one.
-pub fn next_start(starts: &[f64], i: usize) -> NextStart
+#[tactic(auto, unfolding(crate::specs::Ends::next_start))]
+pub fn next_start(starts: &[f64], i: usize) -> Option<f64>
     requires { i < length starts.now }
     ensures { result ≡ next_start starts.now i }
 {
-    if i + 1 < starts.len() {
-        return NextStart::Starts(starts[i + 1]);
-    }
-    NextStart::NoNext
+    starts.get(i + 1).copied()
 }
 
 // Whether there is a next word, and it starts less than 0.06 s after this one, or before it.
-fn soon(next: NextStart, w: Times) -> bool
+fn soon(next: Option<f64>, w: Times) -> bool
     ensures { result ≡ soon_of next w }
 {
-    match next {
-        NextStart::Starts(s) => s - w.start < NO_LENGTH,
-        NextStart::NoNext => false,
-    }
+    next.is_some_and(|s| s - w.start < NO_LENGTH)
 }
 
 // A word that is too short, and a next word so near that the two share an edge.
-pub fn is_pair(next: NextStart, w: Times) -> bool
+#[tactic(auto, unfolding(crate::specs::Ends::is_pair))]
+pub fn is_pair(next: Option<f64>, w: Times) -> bool
     ensures { result ≡ is_pair next w }
 {
-    if w.end - w.start < NO_LENGTH {
-        return soon(next, w);
-    }
-    false
+    w.end - w.start < NO_LENGTH && soon(next, w)
 }
 
 // Where the first of two words that share an edge starts: at the first loud frame up to the next word's end, if that is later.
@@ -124,7 +110,7 @@ fn pair_start(levels: &[f64], floor: f64, start: f64, next_end: f64) -> f64
     ensures { result ≡ pair_start (loud_row floor levels.now) start next_end }
 {
     let lo = frames::frame_index(start);
-    let hi = base::least(levels.len(), frames::frame_index(next_end));
+    let hi = levels.len().min(frames::frame_index(next_end));
     let k = envelope::first_frame(levels, floor, true, lo, hi);
     if k < hi {
         return js::js_max(start, frames::index_seconds(k));
@@ -133,6 +119,7 @@ fn pair_start(levels: &[f64], floor: f64, start: f64, next_end: f64) -> f64
 }
 
 // The edge that two words share, by their units, to three decimals.
+#[tactic(auto, unfolding(crate::specs::Ends::pair_edge))]
 fn pair_edge(start: f64, next_end: f64, own: u32, other: u32) -> f64
     ensures { result ≡ pair_edge start next_end own other }
 {
@@ -141,6 +128,7 @@ fn pair_edge(start: f64, next_end: f64, own: u32, other: u32) -> f64
 }
 
 // The times of the first of two words that share an edge.
+#[tactic(auto, unfolding(crate::specs::Ends::pair_of))]
 pub fn pair_of(levels: &[f64], floor: f64, w: Times, next_end: f64, own: u32, other: u32) -> Times
     requires { length levels.now ≤ 2 ^ 40 }
     ensures { result ≡ pair_of (loud_row floor levels.now) w next_end own other }

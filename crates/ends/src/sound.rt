@@ -5,8 +5,6 @@ ghost use Rattle.envelope.specs.Envelope.{loud_row};
 ghost use Rattle.ends.specs.Ends.{last_loud, sound_end};
 ghost use Rattle.ends.specs.Parts.{sound_on};
 
-use base::SoundEnd;
-
 // The frame past the last loud one, of a sound that was met before frame `from`, before `edge` quiet ones: looks back from the last frame that
 // may go on with it.
 fn sound_past(levels: &[f64], floor: f64, edge: usize, from: usize, hi: usize) -> usize
@@ -15,7 +13,7 @@ fn sound_past(levels: &[f64], floor: f64, edge: usize, from: usize, hi: usize) -
 {
     let mut past = from;
     while past < hi {
-        let next = envelope::last_frame(levels, floor, past, base::least(hi, past + edge));
+        let next = envelope::last_frame(levels, floor, past, hi.min(past + edge));
         if next <= past {
             return past;
         }
@@ -37,11 +35,11 @@ pub fn last_loud(levels: &[f64], floor: f64, edge: usize, lo: usize, hi: usize) 
 }
 
 // Where the sound ends before frame `past`; no sound where that is 0.
-pub fn sound_end(past: usize) -> SoundEnd
+pub fn sound_end(past: usize) -> Option<f64>
     ensures { result ≡ sound_end (pred_ℤ (pos past)) }
 {
     if past == 0 {
-        return SoundEnd::NoSound;
+        return None;
     }
-    SoundEnd::Ends(frames::index_seconds(past))
+    Some(frames::index_seconds(past))
 }

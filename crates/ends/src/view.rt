@@ -4,8 +4,8 @@ ghost use Rattle.base.specs.Words.{words};
 ghost use Rattle.word_calls.specs.Calls.{output};
 ghost use Rattle.ends.specs.Ends.{ends_call};
 
+use base::Refusal;
 use envelope::view::Envelope;
-use limits::Answer;
 
 // Moves loose ends to where the sound of the recording whose envelope is e stops (onsets.rs, snap_ends).
 pub fn snap_ends<'a>(
@@ -16,7 +16,7 @@ pub fn snap_ends<'a>(
     units: &[u32],
     keys: &[u32],
     duration: f64,
-) -> Answer
+) -> Result<(), Refusal>
     ensures { let before = words starts.old ends.old letters.now units.now keys.now in
         let after = words starts.new ends.new letters.now units.now keys.now in
         output result after ≡ ends_call before e.entry.levels.now e.entry.floor e.entry.count duration }

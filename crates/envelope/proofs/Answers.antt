@@ -1,11 +1,10 @@
 -- An accepted call: what the code answers and leaves is what the definition says. Assumes nothing.
-use Rattle.std.proofs.Common.{◌≡◌, List, ◌++◌, take, drop}
+use Rattle.std.proofs.Common.{◌≡◌, List, ◌++◌, take, drop, Ok}
 use lib.Ieee.{Float}
 use Rattle.envelope.specs.Envelope.{frames, levels, floor, output, accepted}
-use Rattle.envelope.specs.declared.Answer.TheVariants.{Accepted}
 use Rattle.envelope.proofs.Places.{front-levels}
 
 pub accepted-is : (samples places held : List Float) (f : Float) → held ≡ levels samples ++ drop (frames samples) places → f ≡ floor (take (frames samples) held)
-    → output (Accepted f) held ≡ accepted samples places
+    → output (Ok f) held ≡ accepted samples places
 unfolding accepted
 accepted-is samples places held f e h = rw (h, front-levels samples places held e, e)

@@ -1,34 +1,17 @@
 -- Four neighbouring frames at a time: the frames of a part of 640 samples are four frames of the recording, each of their sums takes one sample
 -- more in a turn, and four stores are four turns. Assumes nothing.
-use Rattle.std.proofs.Common.{◌≡◌, ℕ, zero, suc, ◌+◌, ◌-◌, ◌*◌, ◌<◌, ◌≤◌, Bool, true, false, not, ◌&&◌, T, List, [], ◌∷◌, length, get_or, take, drop, set, sym, refl, ap, ◌∙◌, true≢false, arith, length-drop, length-take, get_or-drop, get_or-take, take-take, drop-drop, below_more}
-use lib.Ieee.{Float, binary64, div, is_nan, nan, inf, fin, eq}
+use Rattle.std.proofs.Common.{◌≡◌, ℕ, zero, suc, ◌+◌, ◌-◌, ◌*◌, ◌<◌, ◌≤◌, Bool, true, not, T, List, [], ◌∷◌, length, get_or, take, drop, set, sym, refl, ap, ◌∙◌, arith, length-drop, length-take, get_or-drop, get_or-take, take-take, drop-drop}
+use lib.Ieee.{Float, binary64, div, is_nan, nan}
 use Rattle.base.specs.Loop.{each, fold}
 use Rattle.base.proofs.Loops.{fold_next, fold_done}
 use Rattle.roots.specs.Sqrt.{sqrt}
 use Rattle.envelope.specs.Envelope.{hop, hop_f, zero_f, plus_square, squares, level, frame}
-use Rattle.envelope.specs.Parts.{NoNan, Summed, stored}
+use Rattle.envelope.specs.Parts.{Summed, stored}
 use Rattle.envelope.specs.declared.level.Four.{Four}
 
--- ---- The search for a NaN: a sample that equals itself is none.
-is-itself : (x : Float) → eq x x ≡ true → T (not (is_nan x))
-unfolding eq is_nan
-is-itself nan h = absurd (true≢false (sym h))
-is-itself (inf s) h = tt
-is-itself (fin s m e) h = tt
-
--- where none was met, none of the first i samples is one
+-- ---- The search for a NaN: where none was met, none of the first i samples is one
 pub record Clean (samples : List Float) (i : ℕ) (ok : Bool) : Type 0 where
   pub none : ok ≡ true → (k : ℕ) → k < i → T (not (is_nan (get_or samples k nan)))
-
-pub clean-starts : (samples : List Float) (ok : Bool) → Clean samples 0 ok
-clean-starts samples ok = record { none = λ (e : ok ≡ true) (k : ℕ) (h : k < 0). absurd (omega arith) }
-
-pub clean-next : {samples : List Float} {i : ℕ} (ok : Bool) → Clean samples i ok → Clean samples (i + 1) (ok && eq (get_or samples i nan) (get_or samples i nan))
-clean-next {samples} {i} true h = record { none = λ (e : eq (get_or samples i nan) (get_or samples i nan) ≡ true). below_more _ _ (h.none refl) (is-itself (get_or samples i nan) e) }
-clean-next {samples} {i} false h = record { none = λ (e : false ≡ true). absurd (true≢false (sym e)) }
-
-pub clean-done : {samples : List Float} {i : ℕ} {ok : Bool} → Clean samples i ok → length samples ≤ i → ok ≡ true → NoNan samples
-clean-done {samples} h l e = record { at = λ (k : ℕ) (s : k < length samples). h.none e k (omega arith) }
 
 -- ---- What is left of frame j's sum, from sample i on, gives the whole.
 pub record Left (part : List Float) (j i : ℕ) (e : Float) : Type 0 where

@@ -1,13 +1,11 @@
 -- Within the limits: what no refusal says of the samples and the places. Assumes nothing.
-use Rattle.std.proofs.Common.{◌≡◌, ◌≤◌, List, length, ap, ltb-false}
+use Rattle.std.proofs.Common.{◌≡◌, ◌≤◌, List, length, ap, ltb-false, Ok}
 use lib.Ieee.{Float}
-use Rattle.base.specs.Refusals.{first}
-use Rattle.base.specs.declared.Rule.{Rule}
-use Rattle.base.specs.declared.Rule.TheVariants.{Fine}
+use Rattle.base.specs.Refusals.{first, Rule}
 use Rattle.base.proofs.First.{fine-none}
 use Rattle.envelope.specs.Envelope.{frames, tests, by_rule, envelope_call}
 
-pub fine-limits : (samples places : List Float) → first (tests samples places) ≡ Fine → (length samples ≤ 57600000) × (frames samples ≤ length places)
+pub fine-limits : (samples places : List Float) → first (tests samples places) ≡ Ok tt → (length samples ≤ 57600000) × (frames samples ≤ length places)
 unfolding tests
 fine-limits samples places h =
     let n = fine-none (tests samples places) h in

@@ -2,10 +2,9 @@
 use Rattle.std.proofs.Common.{◌≡◌, ℕ, ◌<◌, false, List, [], ◌∷◌, replicate, pos, negsuc, refl, ap, lit<, lit≤, lt-ltb}
 use lib.ListN.{length-replicate}
 use lib.Ieee.{Float, fin}
-use Rattle.base.specs.Refusals.{first, accepts, refuses}
-use Rattle.base.specs.declared.Rule.{Rule}
+use Rattle.base.specs.Refusals.{first, accepts, refuses, Rule, says}
 use Rattle.base.proofs.First.{first-here}
-use Rattle.envelope.specs.Envelope.{levels, floor, says, tests, by_rule, envelope_call}
+use Rattle.envelope.specs.Envelope.{levels, floor, tests, by_rule, envelope_call}
 use Rattle.envelope.proofs.Promises.{accepted-exactly}
 
 -- one frame of 0.5

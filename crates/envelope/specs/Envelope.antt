@@ -1,17 +1,14 @@
 -- envelope.rs, and document 01's "Levels": levels, peak and floor, loud and quiet frames, the calls. Assumes nothing.
-use Rattle.std.specs.Prelude.{ℕ, ◌*◌, ◌/◌, Bool, false, cond, not, ◌&&◌, List, [], ◌∷◌, ◌++◌, map, length, take, drop, ℤ, pos, negsuc, ◌==◌, from_bits, is_nan, slice_index_or, to_bits, Float}
+use Rattle.base.specs.declared.Refusal.{Refusal}
+use Rattle.std.specs.Prelude.{ℕ, ◌*◌, ◌/◌, Bool, false, cond, not, ◌&&◌, List, [], ◌∷◌, ◌++◌, map, length, take, drop, ℤ, pos, negsuc, ◌==◌, from_bits, is_nan, slice_index_or, to_bits, Float, Ok, Err, Result}
 use Rattle.std.specs.Float.{binary64}
 use Rattle.std.specs.Float.Ieee.{add, mul, div, lt, le}
 use Rattle.base.specs.Loop.{fold, table}
 use Rattle.roots.specs.Sqrt.{sqrt}
 use Rattle.js.specs.Js.{js_max}
-use Rattle.base.specs.Refusals.{number, Test, test, first, Says, accepts, refuses}
+use Rattle.base.specs.Refusals.{Test, test, first, Rule}
 use Rattle.base.specs.declared.Refusal.TheVariants.{Counts, Places}
-use Rattle.base.specs.declared.Rule.{Rule}
-use Rattle.base.specs.declared.Rule.TheVariants.{Fine, Breaks}
 use Rattle.limits.specs.Limits.{many_samples, few_places}
-use Rattle.envelope.specs.declared.Answer.{Answer}
-use Rattle.envelope.specs.declared.Answer.TheVariants.{Accepted, Refused}
 
 -- ======== The levels of a recording.
 
@@ -90,17 +87,12 @@ quiet_row f ls = map (λ v. le v f) ls
 
 -- ======== What the public calls of `envelope` answer and leave.
 
--- ---- "floor is peak × 0.01", given back; "A refusal returns its number only".
-abbrev pub says : Answer → Says Float
-says (Accepted f) = accepts f
-says (Refused r) = refuses (number r)
-
--- ---- What the call gives back, and what the lent places hold afterwards.
+-- ---- What the call gives back, the floor ("floor is peak × 0.01") or why it refuses; and what the lent places hold afterwards.
 pub record Output : Type 0 where
-  pub answer : Answer
+  pub answer : Result Float Refusal
   pub places : List Float
 
-abbrev pub output : Answer → List Float → Output
+abbrev pub output : Result Float Refusal → List Float → Output
 output a p = record { answer = a; places = p }
 
 -- ---- Refusals 4 and 6: "Needs one place per frame".
@@ -109,11 +101,11 @@ tests samples places = test (many_samples (length samples)) Counts ∷ test (few
 
 -- ---- "further places stay"
 unfoldable pub accepted : List Float → List Float → Output
-accepted samples places = output (Accepted (floor (levels samples))) (levels samples ++ drop (frames samples) places)
+accepted samples places = output (Ok (floor (levels samples))) (levels samples ++ drop (frames samples) places)
 
 abbrev pub by_rule : Rule → List Float → List Float → Output
-by_rule Fine samples places = accepted samples places
-by_rule (Breaks r) samples places = output (Refused r) places
+by_rule (Ok u) samples places = accepted samples places
+by_rule (Err r) samples places = output (Err r) places
 
 unfoldable pub envelope_call : List Float → List Float → Output
 envelope_call samples places = by_rule (first (tests samples places)) samples places

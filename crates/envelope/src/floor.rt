@@ -2,6 +2,8 @@
 ghost use Rattle.std.specs.Prelude.{◌≡◌};
 ghost use Rattle.envelope.specs.Envelope.{floor as floor_of, own_floor};
 
+use std::num::f64_to_bits_with_nan;
+
 // The level of a recording's loudest frame where there is no sound.
 const MIN_PEAK: f64 = 1e-9;
 
@@ -10,10 +12,8 @@ pub fn floor_of(levels: &[f64]) -> f64
     ensures { result ≡ floor_of levels.now }
 {
     let mut peak = MIN_PEAK;
-    let mut i = 0;
-    while i < levels.len() {
-        peak = js::js_max(peak, levels[i]);
-        i += 1;
+    for level in levels {
+        peak = js::js_max(peak, *level);
     }
     peak * 0.01
 }
@@ -22,12 +22,5 @@ pub fn floor_of(levels: &[f64]) -> f64
 pub fn own_floor(levels: &[f64], floor: f64) -> bool
     ensures { result ≡ own_floor levels.now floor }
 {
-    let own = floor_of(levels);
-    if own != own {
-        return floor != floor;
-    }
-    if floor != floor {
-        return false;
-    }
-    f64::to_bits(own) == f64::to_bits(floor)
+    f64_to_bits_with_nan(floor_of(levels)) == f64_to_bits_with_nan(floor)
 }

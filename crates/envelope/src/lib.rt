@@ -6,7 +6,7 @@ ghost use Rattle.base.specs.Refusals.{first};
 ghost use Rattle.envelope.specs.Envelope.{frames, loud_row, output, tests, accepted, envelope_call};
 ghost use Rattle.envelope.specs.Parts.{Met, Past};
 
-use base::{Refusal, Rule};
+use base::Refusal;
 
 pub mod floor;
 pub mod level;
@@ -15,45 +15,36 @@ pub mod view;
 // Samples in a frame.
 const HOP: usize = 160;
 
-// What a call answers: the floor, or why it refuses.
-#[derive(Drop)]
-pub enum Answer {
-    Accepted(f64),
-    Refused(Refusal),
-}
-
 // The first refusal that applies, of 4 and 6.
-fn judge(samples: &[f32], levels: &[f64]) -> Rule
+#[tactic(auto, unfolding(crate::specs::Envelope::tests, base::specs::Refusals::first))]
+fn judge(samples: &[f32], levels: &[f64]) -> Result<(), Refusal>
     ensures { result ≡ first (tests samples.now levels.now) }
 {
     if limits::sizes::many_samples(samples.len()) {
-        return Rule::Breaks(Refusal::Counts);
+        return Err(Refusal::Counts);
     }
     if limits::sizes::few_places(levels.len(), samples.len() / HOP) {
-        return Rule::Breaks(Refusal::Places);
+        return Err(Refusal::Places);
     }
-    Rule::Fine
+    Ok(())
 }
 
-// The levels and the floor of a recording that is within the limits.
-fn accept(samples: &[f32], levels: &mut [f64]) -> Answer
+// The levels of a recording that is within the limits, in their places, and the floor, which is given back.
+fn accept(samples: &[f32], levels: &mut [f64]) -> f64
     requires { (length samples.now ≤ 57600000) × (frames samples.now ≤ length levels.old) }
-    ensures { output result levels.new ≡ accepted samples.now levels.old }
+    ensures { output (Ok result) levels.new ≡ accepted samples.now levels.old }
 {
     level::fill(samples, levels);
     let n = samples.len() / HOP;
-    Answer::Accepted(floor::floor_of(&levels[..n]))
+    floor::floor_of(&levels[..n])
 }
 
 // The levels of a recording in lent places, and the floor under them (envelope.rs, envelope).
-pub fn envelope(samples: &[f32], levels: &mut [f64]) -> Answer
+pub fn envelope(samples: &[f32], levels: &mut [f64]) -> Result<f64, Refusal>
     ensures { output result levels.new ≡ envelope_call samples.now levels.old }
 {
-    let rule = judge(samples, levels);
-    match rule {
-        Rule::Fine => accept(samples, levels),
-        Rule::Breaks(r) => Answer::Refused(r),
-    }
+    judge(samples, levels)?;
+    Ok(accept(samples, levels))
 }
 
 // Whether frame k is over the floor; a frame outside is not (envelope.rs, loud).
@@ -70,26 +61,22 @@ pub fn loud_at(levels: &[f64], floor: f64, k: usize) -> bool
 pub fn first_frame(levels: &[f64], floor: f64, want: bool, lo: usize, hi: usize) -> usize
     ensures { Met (loud_row floor levels.now) want lo hi result }
 {
-    let mut k = lo;
-    while k < hi {
+    for k in lo..hi {
         if loud_at(levels, floor, k) == want {
             return k;
         }
-        k += 1;
     }
-    k
+    lo.max(hi)
 }
 
 // The frame past the last loud one from lo to before hi; lo where there is none.
 pub fn last_frame(levels: &[f64], floor: f64, lo: usize, hi: usize) -> usize
     ensures { Past (loud_row floor levels.now) lo hi result }
 {
-    let mut k = hi;
-    while lo < k {
-        if loud_at(levels, floor, k - 1) {
-            return k;
+    for k in (lo..hi).rev() {
+        if loud_at(levels, floor, k) {
+            return k + 1;
         }
-        k -= 1;
     }
     lo
 }

@@ -1,4 +1,5 @@
 -- The call `even_out` in plain words, and for the code what its tests found. By the laws of calls that move only times. Assumes nothing.
+use Rattle.std.specs.Prelude.{Ok, Err, IsErrAnd}
 use Prim.Native.Nat.{ℕ}
 use mathlib.Core.Path.{◌≡◌}
 use mathlib.Core.Logic.{◌↔◌}
@@ -6,13 +7,10 @@ use mathlib.Core.List.{List, [], ◌∷◌}
 use lib.Ieee.{Float}
 use Rattle.base.specs.Words.{Words, words, Edges, edges}
 use Rattle.base.specs.declared.Refusal.{Refusal}
-use Rattle.base.specs.declared.Rule.{Rule}
-use Rattle.base.specs.declared.Rule.TheVariants.{Fine, Breaks}
-use Rattle.base.specs.Refusals.{First, accepts, refuses, Judged}
-use Rattle.limits.specs.Order.{in_order, says}
+use Rattle.base.specs.Refusals.{First, accepts, refuses, Judged, Rule, says}
+use Rattle.limits.specs.Order.{in_order}
 use Rattle.word_calls.specs.Within.{LimitWithin, WordsWithin}
 use Rattle.word_calls.specs.Calls.{limit_applies, limit_rule, output, Keeps}
-use Rattle.limits.specs.declared.Answer.TheVariants.{Accepted, Refused}
 use Rattle.word_calls.proofs.Moved as moves
 use Rattle.even.specs.Even.{even_out, even_call}
 
@@ -49,11 +47,10 @@ module _ (ws : Words) (limit : Float) where
   others-stay = moves.moved_keeps given ws (limit_rule ws limit)
 
   -- for the code
-  module _ {found : Rule} (is : found ≡ limit_rule ws limit) where
-    pub refused-made : (r : Refusal) → found ≡ Breaks r → output (Refused r) ws ≡ even_call ws limit
-    unfolding even_call
-    refused-made r e = moves.refused-made (limit_rule ws limit) given ws is r e
+  pub refused-made : {out : Rule} {why : Refusal} → IsErrAnd out (λ (x : Refusal). x ≡ why) → Err why ≡ limit_rule ws limit → output out ws ≡ even_call ws limit
+  unfolding even_call
+  refused-made h f = moves.refused-made (limit_rule ws limit) given ws h f
 
-    pub accepted-made : (s e : List Float) → found ≡ Fine → edges s e ≡ given → output Accepted (words s e ws.letters ws.units ws.keys) ≡ even_call ws limit
-    unfolding even_call
-    accepted-made s e f m = moves.moved_made (limit_rule ws limit) given ws is s e f m
+  pub accepted-made : (s e : List Float) → Ok tt ≡ limit_rule ws limit → edges s e ≡ given → output (Ok tt) (words s e ws.letters ws.units ws.keys) ≡ even_call ws limit
+  unfolding even_call
+  accepted-made s e f m = moves.moved_made (limit_rule ws limit) given ws s e f m

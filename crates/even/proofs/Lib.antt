@@ -1,5 +1,4 @@
 -- Laws of evening.
-pub mod Stretches
 pub mod Runs
 pub mod Turns
 pub mod Unchanged

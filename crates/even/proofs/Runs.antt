@@ -1,7 +1,7 @@
 -- A run's words, and a turn of the loop: for each return of the code what it stands for in the definition. Assumes nothing.
 use Prim.Native.Nat.{ℕ, ◌+◌, ◌<◌}
-use mathlib.Core.Path.{◌≡◌, ap}
-use mathlib.Core.Bool.{true, false}
+use mathlib.Core.Path.{◌≡◌}
+use mathlib.Core.Bool.{false}
 use mathlib.Core.List.{List}
 use lib.ListN.{get_or, length}
 use lib.Ieee.{Float, nan}
@@ -10,7 +10,7 @@ use Rattle.base.specs.Floats.{◌⊖◌}
 use Rattle.base.specs.Words.{Edges, edges, part, with_part, part_edges}
 use Rattle.base.proofs.Parts.{part-made}
 use Rattle.share.specs.Share as shares
-use Rattle.even.specs.Even.{sum, crushed, stretch_of, even_run, even_turn}
+use Rattle.even.specs.Even.{sum, crushed, even_run, even_turn}
 use Rattle.even.specs.declared.stretch.Stretch.{Stretch}
 
 module _ (letters : List ℕ) (es : Edges) (limit : Float) where
@@ -18,12 +18,6 @@ module _ (letters : List ℕ) (es : Edges) (limit : Float) where
   pub turn-long : (i : ℕ) → i < length es.starts → crushed es i ≡ false → record { edges = es; i = i + 1 } ≡ even_turn letters limit (record { edges = es; i = i })
   unfolding even_turn
   turn-long i h t = rw (lt-ltb i (length es.starts) h, t)
-
-  pub turn-run : (i : ℕ) {r : Stretch} {v : Edges} → i < length es.starts → crushed es i ≡ true → r ≡ stretch_of letters es limit i → v ≡ even_run letters r es
-      → record { edges = v; i = r.last + 1 } ≡ even_turn letters limit (record { edges = es; i = i })
-  unfolding even_turn
-  turn-run i {r} h t e ev =
-      rw (lt-ltb i (length es.starts) h, t, ev) (ap (λ (q : Stretch). record { edges = even_run letters q es; i = q.last + 1 }) e)
 
 -- ---- the run's words, lent and given back
 pub run_is : (letters : List ℕ) (r : Stretch) (starts ends : List Float) {n : Float} {s e : List Float}

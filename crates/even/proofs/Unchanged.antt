@@ -1,4 +1,6 @@
 -- A list in which no word is crushed is left as it is: every turn goes on by one word or none, and changes nothing. Assumes nothing.
+use Rattle.base.specs.Refusals.{Rule}
+use Rattle.std.specs.Prelude.{Ok, Err}
 use Prim.Native.Nat.{ℕ, ◌<◌}
 use mathlib.Core.Path.{◌≡◌, refl, sym, ap, ◌∙◌}
 use mathlib.Core.Bool.{Bool, true, false}
@@ -9,8 +11,6 @@ use lib.ListN.{length}
 use lib.Ieee.{Float}
 use borrow.Author.Tests.{ltb-true, ltb-false}
 use Rattle.base.specs.Words.{Words, Edges, edges, with_edges}
-use Rattle.base.specs.declared.Rule.{Rule}
-use Rattle.base.specs.declared.Rule.TheVariants.{Fine, Breaks}
 use Rattle.base.proofs.Loops.{each_holds}
 use Rattle.word_calls.specs.Calls.{limit_rule, moved}
 use Rattle.even.specs.Even.{even_call, crushed, even_out, Evening, even_turn}
@@ -36,5 +36,5 @@ pub call-unchanged : (ws : Words) (limit : Float) → ((i : ℕ) → i < length 
 unfolding even_call
 call-unchanged ws limit none = go (limit_rule ws limit) where
   go : (r : Rule) → (moved r (even_out ws.letters limit (edges ws.starts ws.ends)) ws).words ≡ ws
-  go Fine = ap (λ (es : Edges). with_edges es ws) (unchanged ws.letters limit (edges ws.starts ws.ends) none)
-  go (Breaks r) = refl
+  go (Ok u) = ap (λ (es : Edges). with_edges es ws) (unchanged ws.letters limit (edges ws.starts ws.ends) none)
+  go (Err r) = refl

@@ -6,8 +6,7 @@ ghost use Rattle.base.specs.Words.{words, edges};
 ghost use Rattle.word_calls.specs.Calls.{output};
 ghost use Rattle.even.specs.Even.{even_run, even_turn, even_out, even_call};
 
-use base::Rule;
-use limits::Answer;
+use base::Refusal;
 use stretch::Stretch;
 
 pub mod stretch;
@@ -74,17 +73,12 @@ pub fn even_out(
     units: &[u32],
     keys: &[u32],
     limit: f64,
-) -> Answer
+) -> Result<(), Refusal>
     ensures { let before = words starts.old ends.old letters.now units.now keys.now in
         let after = words starts.new ends.new letters.now units.now keys.now in
         output result after ≡ even_call before limit }
 {
-    let rule = word_calls::limit_rule(starts, ends, letters, units, keys, limit);
-    match rule {
-        Rule::Breaks(why) => Answer::Refused(why),
-        Rule::Fine => {
-            even_words(starts, ends, letters, limit);
-            Answer::Accepted
-        }
-    }
+    word_calls::limit_rule(starts, ends, letters, units, keys, limit)?;
+    even_words(starts, ends, letters, limit);
+    Ok(())
 }

@@ -56,15 +56,10 @@ fn first_crushed(starts: &[f64], ends: &[f64], i: usize) -> usize
     requires { (i ≤ length starts.now) × (i ≤ length ends.now) }
     ensures { (result ≡ first_crushed (edges starts.now ends.now) i) × (result ≤ i) }
 {
-    let mut a = i;
-    while 0 < a {
-        if is_crushed(starts, ends, a - 1) {
-            a -= 1;
-        } else {
-            return a;
-        }
-    }
-    a
+    (1..=i)
+        .rev()
+        .find(|&a| !is_crushed(starts, ends, a - 1))
+        .unwrap_or(0)
 }
 
 // A run from word a on takes the word before it along where that one is swollen.
@@ -72,13 +67,11 @@ fn with_swollen(starts: &[f64], ends: &[f64], letters: &[u32], a: usize) -> usiz
     requires { (a ≤ length starts.now) × ((a ≤ length ends.now) × (a ≤ length letters.now)) }
     ensures { (result ≡ with_swollen letters.now (edges starts.now ends.now) a) × (result ≤ a) }
 {
-    if a == 0 {
-        return 0;
+    if a > 0 && is_swollen(starts, ends, letters, a - 1) {
+        a - 1
+    } else {
+        a
     }
-    if is_swollen(starts, ends, letters, a - 1) {
-        return a - 1;
-    }
-    a
 }
 
 // The last of the crushed words that stand in a row after word i.
@@ -87,15 +80,10 @@ fn last_crushed(starts: &[f64], ends: &[f64], i: usize) -> usize
     ensures { let before = edges starts.now ends.now in
         (result ≡ last_crushed before (length starts.now) i) × ((i ≤ result) × (result < length starts.now)) }
 {
-    let mut b = i;
-    while b + 1 < starts.len() {
-        if is_crushed(starts, ends, b + 1) {
-            b += 1;
-        } else {
-            return b;
-        }
-    }
-    b
+    let end = starts.len() - 1;
+    (i..end)
+        .find(|&b| !is_crushed(starts, ends, b + 1))
+        .unwrap_or(end)
 }
 
 // So much room is too little for words a to b, which may yet take another word along.
@@ -103,10 +91,7 @@ fn cramped(letters: &[u32], room: f64, a: usize, b: usize) -> bool
     requires { (a ≤ b) × ((b < length letters.now) × (length letters.now ≤ 4096)) }
     ensures { result ≡ (lt room (min_letter ⊗ sum_of letters.now a b) && ltb (b - a) max_span) }
 {
-    if b - a < MAX_SPAN {
-        return room < MIN_LETTER * sum(letters, a, b);
-    }
-    false
+    b - a < MAX_SPAN && room < MIN_LETTER * sum(letters, a, b)
 }
 
 // The last word of a run from a to b that takes words after it along while it has too little room before them.
@@ -117,15 +102,10 @@ fn grown(starts: &[f64], letters: &[u32], a: usize, b: usize) -> usize
         × ((b ≤ result) × (result < length starts.now)) }
 {
     let from = starts[a];
-    let mut e = b;
-    while e + 1 < starts.len() {
-        if cramped(letters, starts[e + 1] - from, a, e) {
-            e += 1;
-        } else {
-            return e;
-        }
-    }
-    e
+    let end = starts.len() - 1;
+    (b..end)
+        .find(|&e| !cramped(letters, starts[e + 1] - from, a, e))
+        .unwrap_or(end)
 }
 
 // The time that a run up to word b must not pass: the next word's start, or the limit.
@@ -146,15 +126,10 @@ fn borrowed(starts: &[f64], letters: &[u32], ceiling: f64, b: usize, a: usize) -
     requires { (a ≤ b) × ((b < length starts.now) × ((length letters.now ≡ length starts.now) × (length starts.now ≤ 4096))) }
     ensures { ((ends : List Float) → result ≡ borrowed_to letters.now (edges starts.now ends) ceiling b a) × (result ≤ a) }
 {
-    let mut f = a;
-    while 0 < f {
-        if cramped(letters, ceiling - starts[f], f, b) {
-            f -= 1;
-        } else {
-            return f;
-        }
-    }
-    f
+    (1..=a)
+        .rev()
+        .find(|&f| !cramped(letters, ceiling - starts[f], f, b))
+        .unwrap_or(0)
 }
 
 // Where the last word of a run from a to b ends: not past the ceiling nor later than said slowly, and not before it did.

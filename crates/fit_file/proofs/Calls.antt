@@ -1,4 +1,5 @@
 -- The call `fit_file_at` in plain words, and for the code what its tests found. By the laws of calls that move only times. Assumes nothing.
+use Rattle.std.specs.Prelude.{Ok, Err, IsErrAnd}
 use Prim.Native.Nat.{ℕ, ◌≤◌, ◌^◌, min}
 use mathlib.Core.Path.{◌≡◌, sym, ◌∙◌}
 use mathlib.Core.Logic.{◌↔◌}
@@ -8,11 +9,8 @@ use lib.ListN.{length}
 use lib.Ieee.{Float}
 use Rattle.base.specs.Words.{Words, words, Spans, Edges, edges, count}
 use Rattle.base.specs.declared.Refusal.{Refusal}
-use Rattle.base.specs.declared.Rule.{Rule}
-use Rattle.base.specs.declared.Rule.TheVariants.{Fine, Breaks}
-use Rattle.base.specs.Refusals.{First, accepts, refuses, Judged}
-use Rattle.limits.specs.Order.{in_order, says}
-use Rattle.limits.specs.declared.Answer.TheVariants.{Accepted, Refused}
+use Rattle.base.specs.Refusals.{First, accepts, refuses, Judged, Rule, says}
+use Rattle.limits.specs.Order.{in_order}
 use Rattle.word_calls.specs.Within.{PhrasesWithin}
 use Rattle.word_calls.specs.Calls.{phrases_applies, phrases_rule, output, Keeps}
 use Rattle.word_calls.proofs.Moved as moves
@@ -54,8 +52,8 @@ module _ (ws : Words) (phrases : List ℕ) (spans : Spans) (levels : List Float)
 
 -- ---- for the code: what it needs where the tests find nothing, with work space of lists so long
 module _ (ws : Words) (phrases : ℕ) (spans : Spans) (levels samples starts ends letters : ℕ) {found : Rule} {inner places : ℕ}
-    (is-inner : inner ≡ min ends letters) (is-places : places ≡ min starts inner)
-    (is : found ≡ phrases_rule ws phrases spans levels samples places (count ws)) (fine : found ≡ Fine) where
+    (is-inner : inner ≡ min starts ends) (is-places : places ≡ min inner letters)
+    (is : found ≡ phrases_rule ws phrases spans levels samples places (count ws)) (fine : found ≡ Ok tt) where
   within : PhrasesWithin ws phrases spans levels samples places (count ws)
   within = moves.phrases-fine ws phrases spans levels samples places (count ws) (sym is ∙ fine)
 
@@ -73,18 +71,18 @@ module _ (ws : Words) (phrases : ℕ) (spans : Spans) (levels samples starts end
 
 -- ---- and what it answers and leaves
 module _ (ws : Words) (phrases : List ℕ) (spans : Spans) (levels : List Float) (floor : Float) (samples starts ends letters : ℕ) {found : Rule} {inner places : ℕ}
-    (is-inner : inner ≡ min ends letters) (is-places : places ≡ min starts inner)
+    (is-inner : inner ≡ min starts ends) (is-places : places ≡ min inner letters)
     (is : found ≡ phrases_rule ws (length phrases) spans (length levels) samples places (count ws)) where
   is-rule : found ≡ phrases_rule ws (length phrases) spans (length levels) samples (work_places starts ends letters) (count ws)
-  is-rule = is ∙ rw (is-places, is-inner)
+  is-rule = let all : places ≡ work_places starts ends letters = omega arith in is ∙ rw all
 
-  pub refused-made : (r : Refusal) → found ≡ Breaks r → output (Refused r) ws ≡ fit_file_call ws phrases spans levels floor samples (work_places starts ends letters)
+  pub refused-made : {out : Rule} {why : Refusal} → IsErrAnd out (λ (x : Refusal). x ≡ why) → found ≡ Err why → output out ws ≡ fit_file_call ws phrases spans levels floor samples (work_places starts ends letters)
   unfolding fit_file_call
-  refused-made r e = moves.refused-made (phrases_rule ws (length phrases) spans (length levels) samples (work_places starts ends letters) (count ws)) (given ws phrases spans levels floor samples places) ws is-rule r e
+  refused-made h e = moves.refused-made (phrases_rule ws (length phrases) spans (length levels) samples (work_places starts ends letters) (count ws)) (given ws phrases spans levels floor samples places) ws h (sym e ∙ is-rule)
 
-  pub accepted-made : {duration : Float} (s e : List Float) → found ≡ Fine → duration ≡ duration_of samples
+  pub accepted-made : {duration : Float} (s e : List Float) → found ≡ Ok tt → duration ≡ duration_of samples
       → edges s e ≡ fit_file (loud_row floor levels) duration ws.letters phrases (edges spans.starts spans.ends) (edges ws.starts ws.ends)
-      → output Accepted (words s e ws.letters ws.units ws.keys) ≡ fit_file_call ws phrases spans levels floor samples (work_places starts ends letters)
+      → output (Ok tt) (words s e ws.letters ws.units ws.keys) ≡ fit_file_call ws phrases spans levels floor samples (work_places starts ends letters)
   unfolding fit_file_call
   accepted-made s e fine d m =
-      moves.moved_made (phrases_rule ws (length phrases) spans (length levels) samples (work_places starts ends letters) (count ws)) (given ws phrases spans levels floor samples places) ws is-rule s e fine (m ∙ rw d)
+      moves.moved_made (phrases_rule ws (length phrases) spans (length levels) samples (work_places starts ends letters) (count ws)) (given ws phrases spans levels floor samples places) ws s e (sym fine ∙ is-rule) (m ∙ rw d)

@@ -1,4 +1,5 @@
 -- The words of a phrase stay as many as they are. Assumes nothing.
+use Rattle.std.specs.Prelude.{Option, Some, None}
 use Prim.Native.Nat.{ℕ, ◌-◌}
 use mathlib.Core.Bool.{Bool, true, false, cond}
 use mathlib.Core.Path.{◌≡◌, refl, ◌∙◌}
@@ -11,8 +12,6 @@ use Rattle.base.specs.declared.Times.{Times}
 use Rattle.base.proofs.Loops.{each_keeps}
 use Rattle.base.proofs.Parts.{long, both}
 use Rattle.even.proofs.Turns.{even-long}
-use Rattle.last_run.specs.declared.Run.{Run}
-use Rattle.last_run.specs.declared.Run.TheVariants.{Sound, Nothing}
 use Rattle.fit_to_sound.proofs.Kept.{fit-long}
 use Rattle.fit_file.specs.FitFile.{inside_turn, keep_inside, make_way, take_sound, take_run, take_trailing, fit_group}
 
@@ -32,12 +31,12 @@ sound-long : (last : ℕ) (w : Times) (group : Edges) → long (take_sound last 
 unfolding take_sound
 sound-long last w group = both (length-set group.starts last w.start) (way_long last w.start (set group.ends last w.end) ∙ length-set group.ends last w.end)
 
-run_long : (run : Run) (after : Float) (last : ℕ) (group : Edges) → long (take_run run after last group) ≡ long group
+run_long : (run : Option Times) (after : Float) (last : ℕ) (group : Edges) → long (take_run run after last group) ≡ long group
 unfolding take_run
-run_long Nothing after last group = refl
-run_long (Sound s e) after last group = go (lt after s) where
-  go : (t : Bool) → long (cond t (take_sound last (record { start = s; end = e }) group) group) ≡ long group
-  go true = sound-long last (record { start = s; end = e }) group
+run_long None after last group = refl
+run_long (Some w) after last group = go (lt after w.start) where
+  go : (t : Bool) → long (cond t (take_sound last w group) group) ≡ long group
+  go true = sound-long last w group
   go false = refl
 
 -- ---- fitting keeps the lengths of both lists

@@ -1,5 +1,6 @@
 -- fit.rs, fit_file with phrase groups, line by line. A `row` says which frames are loud. Assumes nothing.
-use Rattle.std.specs.Prelude.{ℕ, ◌-◌, min, cond, Bool, List, [], ◌∷◌, ◌++◌, map, ◌≡◌, eqb, ltb, get_or, set, length, Float}
+use Rattle.base.specs.Refusals.{Rule}
+use Rattle.std.specs.Prelude.{ℕ, ◌-◌, min, cond, Bool, List, [], ◌∷◌, ◌++◌, map, ◌≡◌, eqb, ltb, get_or, set, length, Float, Ok, Err, Option, Some, None}
 use Rattle.std.specs.Float.{nan, binary64}
 use Rattle.std.specs.Float.Ieee.{of_bits, lt}
 use Rattle.base.specs.Loop.{each}
@@ -9,13 +10,9 @@ use Rattle.base.specs.declared.Times.{Times}
 use Rattle.js.specs.Js.{js_min, js_max}
 use Rattle.even.specs.Even.{even_out}
 use Rattle.last_run.specs.LastRun.{last_run}
-use Rattle.last_run.specs.declared.Run.{Run}
-use Rattle.last_run.specs.declared.Run.TheVariants.{Sound, Nothing}
 use Rattle.fit_to_sound.specs.FitToSound.{fit_to_sound}
 use Rattle.frames.specs.Frames.{rate}
 use Rattle.envelope.specs.Envelope.{loud_row}
-use Rattle.limits.specs.declared.Answer.{Answer}
-use Rattle.limits.specs.declared.Answer.TheVariants.{Accepted, Refused}
 use Rattle.word_calls.specs.Calls.{phrases_rule, Output, moved}
 
 -- ======== The members of a phrase, their words cloned into a group, and the group put back.
@@ -74,9 +71,9 @@ unfoldable pub take_sound : ℕ → Times → Edges → Edges
 take_sound last w group = let moved = set_times group last w in edges moved.starts (make_way last w.start moved.ends)
 
 -- ---- if let Some((start, end)) = .. && start > after
-unfoldable pub take_run : Run → Float → ℕ → Edges → Edges
-take_run Nothing after last group = group
-take_run (Sound start end) after last group = cond (lt after start) (take_sound last (times start end) group) group
+unfoldable pub take_run : Option Times → Float → ℕ → Edges → Edges
+take_run None after last group = group
+take_run (Some w) after last group = cond (lt after w.start) (take_sound last w group) group
 
 -- ---- let last = group.len() - 1; let after = group[last].end + TRAILING_GAP; .. last_run(&env, after, span.end)
 unfoldable pub take_trailing : List Bool → Float → Edges → Edges
@@ -120,6 +117,6 @@ fit_file_call ws phrases spans levels floor samples places =
     (fit_file (loud_row floor levels) (duration_of samples) ws.letters phrases (edges spans.starts spans.ends) (edges ws.starts ws.ends)) ws
 
 -- ---- "what that space holds after acceptance is free"; a refusal leaves it as it was.
-unfoldable pub Unchanged : {A : Type 0} → Answer → List A → List A → Type 0
-Unchanged Accepted before after = Unit
-Unchanged (Refused r) before after = after ≡ before
+unfoldable pub Unchanged : {A : Type 0} → Rule → List A → List A → Type 0
+Unchanged (Ok u) before after = Unit
+Unchanged (Err r) before after = after ≡ before

@@ -89,8 +89,7 @@ pub fn fit_phrases(
         ≡ fit_file loud_frames duration letters.now phrases.now
         (edges span_starts.now span_ends.now) before }
 {
-    let mut p = 0;
-    while p < span_starts.len() {
+    for p in 0..span_starts.len() {
         fit_phrase(
             starts,
             ends,
@@ -106,6 +105,5 @@ pub fn fit_phrases(
             work_ends,
             work_letters,
         );
-        p += 1;
     }
 }

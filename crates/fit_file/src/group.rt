@@ -61,8 +61,7 @@ pub fn gather(
         × (result ≤ length starts.now) }
 {
     let mut n = 0;
-    let mut i = 0;
-    while i < starts.len() {
+    for i in 0..starts.len() {
         n = take_word(
             starts,
             ends,
@@ -75,7 +74,6 @@ pub fn gather(
             work_ends,
             work_letters,
         );
-        i += 1;
     }
     n
 }
@@ -128,9 +126,7 @@ pub fn put_back(
         (edges work_starts.now work_ends.now) before }
 {
     let mut next = 0;
-    let mut i = 0;
-    while i < starts.len() {
+    for i in 0..starts.len() {
         next = put_word(starts, ends, phrases, p, i, next, work_starts, work_ends);
-        i += 1;
     }
 }

@@ -6,8 +6,7 @@ ghost use Rattle.base.specs.Words.{words, spans};
 ghost use Rattle.word_calls.specs.Calls.{output};
 ghost use Rattle.fit_file.specs.FitFile.{duration_of, work_places, fit_file_call, Unchanged};
 
-use base::Rule;
-use limits::Answer;
+use base::Refusal;
 
 pub mod each_phrase;
 pub mod group;
@@ -41,7 +40,7 @@ pub fn fit_file_at(
     work_starts: &mut [f64],
     work_ends: &mut [f64],
     work_letters: &mut [u32],
-) -> Answer
+) -> Result<(), Refusal>
     ensures { let before = words starts.old ends.old letters.now units.now keys.now in
         let after = words starts.new ends.new letters.now units.now keys.now in
         let all_spans = spans span_starts.now span_ends.now counts.now in
@@ -51,11 +50,11 @@ pub fn fit_file_at(
         × (Unchanged result work_ends.old work_ends.new
         × Unchanged result work_letters.old work_letters.new)) }
 {
-    let places = base::least(
-        work_starts.len(),
-        base::least(work_ends.len(), work_letters.len()),
-    );
-    let rule = word_calls::phrases_rule(
+    let places = work_starts
+        .len()
+        .min(work_ends.len())
+        .min(work_letters.len());
+    word_calls::phrases_rule(
         starts,
         ends,
         letters,
@@ -69,25 +68,20 @@ pub fn fit_file_at(
         count,
         places,
         keys.len(),
+    )?;
+    each_phrase::fit_phrases(
+        starts,
+        ends,
+        letters,
+        phrases,
+        span_starts,
+        span_ends,
+        levels,
+        floor,
+        duration_of(count),
+        work_starts,
+        work_ends,
+        work_letters,
     );
-    match rule {
-        Rule::Breaks(why) => Answer::Refused(why),
-        Rule::Fine => {
-            each_phrase::fit_phrases(
-                starts,
-                ends,
-                letters,
-                phrases,
-                span_starts,
-                span_ends,
-                levels,
-                floor,
-                duration_of(count),
-                work_starts,
-                work_ends,
-                work_letters,
-            );
-            Answer::Accepted
-        }
-    }
+    Ok(())
 }

@@ -2,11 +2,9 @@
 ghost use Rattle.std.specs.Prelude.{◌≡◌, ◌<◌, ◌≤◌, ◌^◌, length};
 ghost use Rattle.base.specs.Words.{edges, times};
 ghost use Rattle.envelope.specs.Envelope.{loud_row};
-ghost use Rattle.last_run.specs.declared.Run.TheVariants.{Sound};
 ghost use Rattle.fit_file.specs.FitFile.{inside_span, keep_inside, make_way, take_sound, take_run, take_trailing, fit_group};
 
 use base::Times;
-use last_run::Run;
 
 // A phrase's words last so many seconds at the least.
 const MIN_WORD: f64 = 0.04;
@@ -29,8 +27,7 @@ fn keep_inside(starts: &mut [f64], ends: &mut [f64], from: f64, to: f64)
     requires { length ends.old ≡ length starts.old }
     ensures { edges starts.new ends.new ≡ keep_inside (times from to) (edges starts.old ends.old) }
 {
-    let mut i = 0;
-    while i < starts.len() {
+    for i in 0..starts.len() {
         let w = Times {
             start: starts[i],
             end: ends[i],
@@ -38,7 +35,6 @@ fn keep_inside(starts: &mut [f64], ends: &mut [f64], from: f64, to: f64)
         let t = inside_span(from, to, w);
         starts[i] = t.start;
         ends[i] = t.end;
-        i += 1;
     }
 }
 
@@ -66,7 +62,7 @@ fn take_sound(starts: &mut [f64], ends: &mut [f64], last: usize, w: Times)
 fn take_late(starts: &mut [f64], ends: &mut [f64], w: Times, after: f64, last: usize)
     requires { (last < length starts.old) × (length ends.old ≡ length starts.old) }
     ensures { let before = edges starts.old ends.old in
-        edges starts.new ends.new ≡ take_run (Sound w.start w.end) after last before }
+        edges starts.new ends.new ≡ take_run (Some w) after last before }
 {
     if w.start > after {
         take_sound(starts, ends, last, w);
@@ -74,13 +70,13 @@ fn take_late(starts: &mut [f64], ends: &mut [f64], w: Times, after: f64, last: u
 }
 
 // The last word takes a run of sound, where there is one and it starts after `after`.
-fn take_run(starts: &mut [f64], ends: &mut [f64], run: Run, after: f64, last: usize)
+#[tactic(auto, unfolding(crate::specs::FitFile::take_run))]
+fn take_run(starts: &mut [f64], ends: &mut [f64], run: Option<Times>, after: f64, last: usize)
     requires { (last < length starts.old) × (length ends.old ≡ length starts.old) }
     ensures { edges starts.new ends.new ≡ take_run run after last (edges starts.old ends.old) }
 {
-    match run {
-        Run::Nothing => {}
-        Run::Sound(start, end) => take_late(starts, ends, Times { start, end }, after, last),
+    if let Some(w) = run {
+        take_late(starts, ends, w, after, last);
     }
 }
 

@@ -4,8 +4,8 @@ ghost use Rattle.base.specs.Words.{words, spans};
 ghost use Rattle.word_calls.specs.Calls.{output};
 ghost use Rattle.fit_file.specs.FitFile.{work_places, fit_file_call, Unchanged};
 
+use base::Refusal;
 use envelope::view::Envelope;
-use limits::Answer;
 
 // Fits words to the sound of the recording whose envelope is e, phrase by phrase (fit.rs, fit_file).
 pub fn fit_file<'a>(
@@ -22,7 +22,7 @@ pub fn fit_file<'a>(
     work_starts: &mut [f64],
     work_ends: &mut [f64],
     work_letters: &mut [u32],
-) -> Answer
+) -> Result<(), Refusal>
     ensures { let before = words starts.old ends.old letters.now units.now keys.now in
         let after = words starts.new ends.new letters.now units.now keys.now in
         let all_spans = spans span_starts.now span_ends.now counts.now in

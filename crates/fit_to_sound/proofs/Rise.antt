@@ -1,4 +1,5 @@
 -- The first frame at which a sound starts: the code looks for it between indices that are cut at 2 ^ 40, and no frame lies beyond. Assumes nothing.
+use Rattle.std.specs.Prelude.{Option, Some, None}
 use Prim.Native.Nat.{ℕ, ◌+◌, ◌-◌, ◌<◌, ◌≤◌, ◌^◌, min}
 use mathlib.Core.Bool.{Bool, true, false}
 use mathlib.Core.List.{List}
@@ -15,28 +16,12 @@ use Rattle.base.specs.Whole.{to_nat, min_z, max_z}
 use Rattle.base.specs.Loop.{on, run}
 use Rattle.base.specs.Floats.{◌⊕◌, ◌⊖◌}
 use Rattle.base.specs.declared.Times.{Times}
-use Rattle.base.specs.declared.NextStart.{NextStart}
-use Rattle.base.specs.declared.NextStart.TheVariants.{Starts, NoNext}
 use Rattle.base.proofs.Loops.{sub-nat, sub-pos, lt_z-nat, range-pos, run-next, run-stop, run-done}
 use Rattle.frames.specs.Frames.{frame_at, frame_from_zero, frame_seconds}
 use Rattle.envelope.specs.Envelope.{loud_row}
 use Rattle.envelope.proofs.Scan.{length-row}
 use Rattle.fit_to_sound.specs.FitToSound.{search_ahead, before_next, is_loud_run, stop_before, stop_at, rise_turn, rise_frame, moved_to, rise_of}
 use Rattle.fit_to_sound.specs.Parts.{stop_index, rise_from}
-
--- ---- three loud frames, as the code tests them
-module _ (row : List Bool) (k : ℕ) where
-  pub loud-three : {r : Bool} → get_or row k false ≡ true → get_or row (k + 1) false ≡ true → r ≡ get_or row (k + 2) false → r ≡ is_loud_run row (pos k)
-  unfolding is_loud_run
-  loud-three a b e = rw (a, b) e
-
-  pub loud-one : get_or row k false ≡ true → get_or row (k + 1) false ≡ false → false ≡ is_loud_run row (pos k)
-  unfolding is_loud_run
-  loud-one a b = rw (a, b)
-
-  pub loud-none : get_or row k false ≡ false → false ≡ is_loud_run row (pos k)
-  unfolding is_loud_run
-  loud-none a = rw a
 
 -- ---- the search stands at frame k
 module _ (row : List Bool) (stop : ℕ) where
@@ -69,29 +54,29 @@ min_z-pos a b = go (ltb b a) refl where
   go false t = let l = ltb-false b a t in rw t (ap pos (omega arith))
 
 -- ---- the end of the search, as an index
-module _ (next : NextStart) (last : ℕ) where
-  pub stop-next : {s : Float} {r : ℕ} → next ≡ Starts s → r ≡ min (to_nat (frame_at (s ⊖ before_next))) (2 ^ 40) → r ≡ stop_index next last
+module _ (next : Option Float) (last : ℕ) where
+  pub stop-next : {s : Float} {r : ℕ} → next ≡ Some s → r ≡ min (to_nat (frame_at (s ⊖ before_next))) (2 ^ 40) → r ≡ stop_index next last
   unfolding stop_index
   stop-next e h = rw e h
 
-  pub stop-last : next ≡ NoNext → last ≡ stop_index next last
+  pub stop-last : next ≡ None → last ≡ stop_index next last
   unfolding stop_index
   stop-last e = rw e
 
 least-cut : (l a b ahead before stop : ℕ) → l ≤ 2 ^ 40 → ahead ≡ min l (min a (2 ^ 40)) → before ≡ min b (2 ^ 40) → stop ≡ min ahead before → min (min l a) b ≡ stop
 least-cut l a b ahead before stop h ea eb es = omega arith
 
-stop_is : (n : ℕ) → 3 ≤ n → n ≤ 2 ^ 40 → (next : NextStart) (start : Float) {last ahead before stop : ℕ} → last ≡ n - 3
+stop_is : (n : ℕ) → 3 ≤ n → n ≤ 2 ^ 40 → (next : Option Float) (start : Float) {last ahead before stop : ℕ} → last ≡ n - 3
     → ahead ≡ min last (min (to_nat (frame_at (start ⊕ search_ahead))) (2 ^ 40)) → before ≡ stop_index next last → stop ≡ min ahead before → stop_at (pos n) next start ≡ pos stop
 unfolding stop_at stop_before stop_index
-stop_is n l h (Starts s) start el ea eb es =
+stop_is n l h (Some s) start el ea eb es =
     rw (sub-pos n 3 l, from_zero-pos (start ⊕ search_ahead), from_zero-pos (s ⊖ before_next), min_z-pos, min_z-pos)
     (ap pos (least-cut (n - 3) (to_nat (frame_at (start ⊕ search_ahead))) (to_nat (frame_at (s ⊖ before_next))) _ _ _ (omega arith) (ea ∙ rw el) eb es))
-stop_is n l h NoNext start el ea eb es =
+stop_is n l h None start el ea eb es =
     rw (sub-pos n 3 l, from_zero-pos (start ⊕ search_ahead), min_z-pos, min_z-pos) (ap pos (omega arith))
 
 -- ---- a word in silence at frame f
-module _ (floor : Float) (levels : List Float) (short : length levels ≤ 2 ^ 40) (f : ℕ) (more : f + 3 < length levels) (next : NextStart) (w : Times)
+module _ (floor : Float) (levels : List Float) (short : length levels ≤ 2 ^ 40) (f : ℕ) (more : f + 3 < length levels) (next : Option Float) (w : Times)
     {last ahead before stop k : ℕ} (el : last ≡ length levels - 3) (ea : ahead ≡ min last (min (to_nat (frame_at (w.start ⊕ search_ahead))) (2 ^ 40)))
     (eb : before ≡ stop_index next last) (es : stop ≡ min ahead before) (ek : pos k ≡ rise_frame (loud_row floor levels) (pos f) (pos stop)) where
   stop-here : stop_at (pos (length (loud_row floor levels))) next w.start ≡ pos stop
@@ -106,7 +91,7 @@ module _ (floor : Float) (levels : List Float) (short : length levels ≤ 2 ^ 40
   rise-none h = rw (stop-here, ← ek, le-ltb k stop h)
 
 -- ---- a word's start, by the frame it lies in
-module _ (floor : Float) (levels : List Float) (short : length levels ≤ 2 ^ 40) (next : NextStart) (w : Times) (f : ℕ) (is : f ≡ min (to_nat (frame_at w.start)) (2 ^ 40)) where
+module _ (floor : Float) (levels : List Float) (short : length levels ≤ 2 ^ 40) (next : Option Float) (w : Times) (f : ℕ) (is : f ≡ min (to_nat (frame_at w.start)) (2 ^ 40)) where
   abbrev row : List Bool
   row = loud_row floor levels
 

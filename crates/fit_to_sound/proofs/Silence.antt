@@ -1,4 +1,5 @@
 -- Silence between two times, and where a sound ends: the code looks at the frames that exist, and its count of quiet frames is the loop's. Assumes nothing.
+use Rattle.std.specs.Prelude.{Option}
 use Prim.Native.Nat.{ℕ, ◌+◌, ◌-◌, ◌<◌, ◌≤◌, ◌^◌, min}
 use mathlib.Core.Bool.{Bool, true, false}
 use mathlib.Core.List.{List}
@@ -11,7 +12,6 @@ use lib.Ieee.{Float}
 use Rattle.base.specs.Whole.{to_nat, min_z}
 use Rattle.base.specs.Words.{end_silence}
 use Rattle.base.specs.Loop.{on, out, run}
-use Rattle.base.specs.declared.SoundEnd.{SoundEnd}
 use Rattle.base.proofs.Loops.{range-pos, range-end, run-start, run-next, run-stop, run-done}
 use Rattle.frames.specs.Frames.{frame_at, frame_from_zero}
 use Rattle.frames.proofs.Indices.{min_z-index, from_zero-nat}
@@ -22,16 +22,6 @@ use Rattle.ends.proofs.SoundEnds.{last_loud-is}
 use Rattle.fit_to_sound.specs.FitToSound.{sound_end_in, Quiet, quiet_turn, quiet_between, quiet_run}
 use Rattle.fit_to_sound.specs.Parts.{counted}
 use Rattle.fit_to_sound.proofs.Rise.{from_zero-pos}
-
--- ---- the count of quiet frames
-module _ {loud : Bool} (n : ℕ) where
-  pub count-loud : loud ≡ true → 0 ≡ counted loud n
-  unfolding counted
-  count-loud e = rw e
-
-  pub count-quiet : loud ≡ false → n + 1 ≡ counted loud n
-  unfolding counted
-  count-quiet e = rw e
 
 -- the loop's state while it goes on
 unfoldable pub running : ℕ → Quiet
@@ -91,7 +81,7 @@ module _ (floor : Float) (levels : List Float) (short : length levels ≤ 2 ^ 40
       ∙ sym (rw (length-row floor levels, from_zero-pos from) (ap (λ (s : Quiet). s.met) (range-end (quiet_turn row) (to_nat (frame_at from)) (min_z (pos (length levels)) (frame_from_zero to)) (record { run = 0; met = false }))
       ∙ ap (λ (n : ℕ). (run (quiet_turn row) (n - to_nat (frame_at from)) (pos (to_nat (frame_at from))) (on (record { run = 0; met = false }))).met) top))
 
-  pub sound_end_in-is : {past : ℕ} {r : SoundEnd} → pos past ≡ suc_ℤ (last_loud end_silence (loud_row floor levels) (pos lo) (pos hi)) → r ≡ sound_end (pred_ℤ (pos past))
+  pub sound_end_in-is : {past : ℕ} {r : Option Float} → pos past ≡ suc_ℤ (last_loud end_silence (loud_row floor levels) (pos lo) (pos hi)) → r ≡ sound_end (pred_ℤ (pos past))
       → r ≡ sound_end_in (loud_row floor levels) from to
   unfolding sound_end_in
   sound_end_in-is p e =

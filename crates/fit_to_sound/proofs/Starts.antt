@@ -1,45 +1,17 @@
 -- Starts in order, and what the loops over the words store. Assumes nothing.
-use Prim.Native.Nat.{ℕ, ◌+◌, ◌-◌, ◌<◌, ◌≤◌}
+use Rattle.std.specs.Prelude.{Option}
+use Prim.Native.Nat.{ℕ, ◌+◌}
 use mathlib.Core.Bool.{Bool, true, false, cond}
 use mathlib.Core.List.{List}
 use mathlib.Core.Path.{◌≡◌, refl, sym, ap, ◌∙◌}
-use borrow.Author.Tests.{lt-ltb, le-ltb}
 use lib.ListN.{get_or, set}
 use lib.Seq.{set-get_or}
 use lib.Ieee.{Float, nan, lt}
-use Rattle.base.specs.Floats.{◌⊕◌, ◌⊖◌}
 use Rattle.base.specs.Words.{edges, times}
 use Rattle.base.specs.declared.Times.{Times}
-use Rattle.base.specs.declared.NextStart.{NextStart}
-use Rattle.js.specs.Js.{js_min, js_max}
+use Rattle.js.specs.Js.{js_max}
 use Rattle.ends.specs.Ends.{next_start}
-use Rattle.fit_to_sound.specs.FitToSound.{min_step, max_keep, step_start, in_order, order_turn, moved_to, rise_of, rise_turn_of, clipped, clip_turn}
-
-module _ (starts : List Float) (i : ℕ) where
-  pub step_after : {r : Float} → 0 < i → r ≡ js_max (get_or starts i nan) (get_or starts (i - 1) nan ⊕ min_step) → r ≡ step_start starts i
-  unfolding step_start
-  step_after h e = rw (lt-ltb 0 i h) e
-
-  pub step-first : i ≤ 0 → get_or starts i nan ≡ step_start starts i
-  unfolding step_start
-  step-first h = rw (le-ltb 0 i h)
-
-module _ (w : Times) where
-  pub order_is : {a b : Float} (duration : Float) → a ≡ js_max w.end w.start → b ≡ js_min duration a → times w.start b ≡ in_order duration w
-  unfolding in_order
-  order_is duration ea eb = rw (eb, ea)
-
-  pub moved-is : {a b : Float} (start : Float) → a ≡ js_min max_keep (w.end ⊖ w.start) → b ≡ js_max w.end (start ⊕ a) → times start b ≡ moved_to start w
-  unfolding moved_to
-  moved-is start ea eb = rw (eb, ea)
-
-  pub clip-over : {a : Float} (next : Float) → lt next w.end ≡ true → a ≡ js_max w.start next → times w.start a ≡ clipped next w
-  unfolding clipped
-  clip-over next h e = rw (h, e)
-
-  pub clip-under : (next : Float) → lt next w.end ≡ false → w ≡ clipped next w
-  unfolding clipped
-  clip-under next h = rw h
+use Rattle.fit_to_sound.specs.FitToSound.{step_start, in_order, order_turn, rise_of, rise_turn_of, clipped, clip_turn}
 
 -- ---- clipping moves the end only
 clip-start : (next : Float) (w : Times) → (clipped next w).start ≡ w.start
@@ -60,7 +32,7 @@ module _ (i : ℕ) (starts ends : List Float) where
   unfolding order_turn
   order-turn duration es et = rw (et, es)
 
-  pub rise-turn : {next : NextStart} {t : Times} (row : List Bool) → next ≡ next_start starts i → t ≡ rise_of row next (times (get_or starts i nan) (get_or ends i nan))
+  pub rise-turn : {next : Option Float} {t : Times} (row : List Bool) → next ≡ next_start starts i → t ≡ rise_of row next (times (get_or starts i nan) (get_or ends i nan))
       → edges (set starts i t.start) (set ends i t.end) ≡ rise_turn_of row i (edges starts ends)
   unfolding rise_turn_of
   rise-turn row en et = rw (et, en)

@@ -1,6 +1,6 @@
 -- fit.rs, fit_to_sound, line by line. A `row` says which frames are loud; frames are whole numbers, as there; `letters` are the weights,
 -- `es` the words' times. Assumes nothing.
-use Rattle.std.specs.Prelude.{ℕ, ◌+◌, ◌-◌, Bool, cond, not, ◌&&◌, ◌||◌, true, false, List, ltb, leb, ℤ, pos, ◌+ℤ◌, ◌-ℤ◌, get_or, length, Float}
+use Rattle.std.specs.Prelude.{ℕ, ◌+◌, ◌-◌, Bool, cond, not, ◌&&◌, ◌||◌, true, false, List, ltb, leb, ℤ, pos, ◌+ℤ◌, ◌-ℤ◌, get_or, length, Float, Option, Some, None}
 use Rattle.std.proofs.Math.IntN.{suc_ℤ}
 use Rattle.std.specs.Int.Signed.{lt_z}
 use Rattle.std.specs.Float.{nan, binary64, inf}
@@ -10,14 +10,10 @@ use Rattle.base.specs.Loop.{Turn, on, out, each, range}
 use Rattle.base.specs.Floats.{◌⊕◌, ◌⊖◌, ◌⊗◌, num}
 use Rattle.base.specs.Words.{Edges, times, times_at, set_times, loose, end_silence, Words, edges}
 use Rattle.base.specs.declared.Times.{Times}
-use Rattle.base.specs.declared.NextStart.{NextStart}
-use Rattle.base.specs.declared.NextStart.TheVariants.{Starts, NoNext}
 use Rattle.js.specs.Js.{js_min, js_max}
 use Rattle.frames.specs.Frames.{frame_from_zero, frame_seconds}
 use Rattle.envelope.specs.Envelope.{loud, loud_row}
 use Rattle.ends.specs.Ends.{next_start, or_duration, last_loud, sound_end}
-use Rattle.base.specs.declared.SoundEnd.{SoundEnd}
-use Rattle.base.specs.declared.SoundEnd.TheVariants.{Ends, NoSound}
 use Rattle.even.specs.Even.{even_out}
 use Rattle.word_calls.specs.Calls.{timed_rule, Output, moved}
 
@@ -62,12 +58,12 @@ unfoldable pub put_in_order : Float → Edges → Edges
 put_in_order duration es = each (order_turn duration) (length es.starts) 0 es
 
 -- ---- 2. next_start.map_or(frames - LOUD_RUN, |s| frame_from_zero(s - BEFORE_NEXT))
-unfoldable pub stop_before : ℤ → NextStart → ℤ
-stop_before frames (Starts s) = frame_from_zero (s ⊖ before_next)
-stop_before frames NoNext = frames -ℤ pos loud_run
+unfoldable pub stop_before : ℤ → Option Float → ℤ
+stop_before frames (Some s) = frame_from_zero (s ⊖ before_next)
+stop_before frames None = frames -ℤ pos loud_run
 
 -- ---- let stop = (frames - LOUD_RUN).min(frame_from_zero(w.start + SEARCH_AHEAD)).min(..);
-unfoldable pub stop_at : ℤ → NextStart → Float → ℤ
+unfoldable pub stop_at : ℤ → Option Float → Float → ℤ
 stop_at frames next start = min_z (min_z (frames -ℤ pos loud_run) (frame_from_zero (start ⊕ search_ahead))) (stop_before frames next)
 
 -- ---- let mut k = f; while k < stop && !loud_run(k) { k += 1; }
@@ -82,7 +78,7 @@ unfoldable pub moved_to : Float → Times → Times
 moved_to start w = times start (js_max w.end (start ⊕ js_min max_keep (w.end ⊖ w.start)))
 
 -- ---- if f >= frames - LOUD_RUN || env.loud(f) { continue; } .. if k >= stop { continue; }
-unfoldable pub rise_of : List Bool → NextStart → Times → Times
+unfoldable pub rise_of : List Bool → Option Float → Times → Times
 rise_of row next w =
     let frames = pos (length row) in
     let f = frame_from_zero w.start in
@@ -136,7 +132,7 @@ unfoldable pub quiet_run : List Bool → Float → Float → Bool
 quiet_run row from to = quiet_between row (frame_from_zero from) (min_z (pos (length row)) (frame_from_zero to))
 
 -- ---- sound_end: it has the loop of snap_ends, between frames from zero, and END_SILENCE ends it.
-unfoldable pub sound_end_in : List Bool → Float → Float → SoundEnd
+unfoldable pub sound_end_in : List Bool → Float → Float → Option Float
 sound_end_in row from to = sound_end (last_loud end_silence row (frame_from_zero from) (min_z (pos (length row)) (frame_from_zero to)))
 
 -- ---- 5. if w.end > end + LOOSE && end - w.start >= js_min(MAX_NEED, LETTER_TIME * weight[i] as f64) { w.end = end; }
@@ -145,16 +141,16 @@ cut_back letters end w =
     cond (lt (end ⊕ loose) w.end && le (js_min max_need (letter_time ⊗ num letters)) (end ⊖ w.start)) (times w.start end) w
 
 -- ---- 6. match next_start { Some(next) if next > w.end && !quiet_run(env, w.end, next) => w.end = next, None if end > w.end => w.end = end, _ => {} }
-unfoldable pub lasts_to : List Bool → NextStart → Float → Times → Times
-lasts_to row (Starts next) end w = cond (lt w.end next && not (quiet_run row w.end next)) (times w.start next) w
-lasts_to row NoNext end w = cond (lt w.end end) (times w.start end) w
+unfoldable pub lasts_to : List Bool → Option Float → Float → Times → Times
+lasts_to row (Some next) end w = cond (lt w.end next && not (quiet_run row w.end next)) (times w.start next) w
+lasts_to row None end w = cond (lt w.end end) (times w.start end) w
 
 -- ---- let Some(end) = sound_end(env, w.start, next_start.unwrap_or(duration)) else { continue; };
-unfoldable pub ended_by : List Bool → NextStart → ℕ → SoundEnd → Times → Times
-ended_by row next letters NoSound w = w
-ended_by row next letters (Ends end) w = lasts_to row next end (cut_back letters end w)
+unfoldable pub ended_by : List Bool → Option Float → ℕ → Option Float → Times → Times
+ended_by row next letters None w = w
+ended_by row next letters (Some end) w = lasts_to row next end (cut_back letters end w)
 
-unfoldable pub end_of : List Bool → Float → NextStart → ℕ → Times → Times
+unfoldable pub end_of : List Bool → Float → Option Float → ℕ → Times → Times
 end_of row duration next letters w = ended_by row next letters (sound_end_in row w.start (or_duration next duration)) w
 
 unfoldable pub end_turn : List Bool → Float → List ℕ → ℕ → Edges → Edges

@@ -1,29 +1,17 @@
 // Words fitted to their sound (fit.rs, fit_to_sound).
 #![tactic(auto)]
 
-ghost use Rattle.std.specs.Prelude.{◌≡◌, ◌≤◌, ◌^◌, length, false};
-ghost use Rattle.std.specs.Float.{inf};
+ghost use Rattle.std.specs.Prelude.{◌≡◌, ◌≤◌, ◌^◌, length};
 ghost use Rattle.base.specs.Words.{words, edges};
 ghost use Rattle.envelope.specs.Envelope.{loud_row};
 ghost use Rattle.word_calls.specs.Calls.{output};
 ghost use Rattle.fit_to_sound.specs.FitToSound.{fit_to_sound, fit_call};
 
-use base::Rule;
-use limits::Answer;
+use base::Refusal;
 
 pub mod view;
 pub mod word_ends;
 pub mod word_starts;
-
-// The bits of the f64 that no time is beyond.
-const INFINITY: u64 = 0x7ff0_0000_0000_0000;
-
-// The f64 that no time is beyond.
-fn infinity() -> f64
-    ensures { result ≡ inf false }
-{
-    f64::from_bits(INFINITY)
-}
 
 // Fits words to their sound (fit.rs, fit_to_sound); nothing is checked.
 pub fn fit_words(
@@ -43,7 +31,7 @@ pub fn fit_words(
     word_starts::put_in_order(starts, ends, duration);
     word_starts::move_to_rise(starts, ends, levels, floor);
     word_starts::clip(starts, ends);
-    even::even_words(starts, ends, letters, infinity());
+    even::even_words(starts, ends, letters, f64::INFINITY);
     word_ends::settle_ends(starts, ends, letters, levels, floor, duration);
     even::even_words(starts, ends, letters, duration);
 }
@@ -59,12 +47,12 @@ pub fn fit_to_sound(
     units: &[u32],
     keys: &[u32],
     duration: f64,
-) -> Answer
+) -> Result<(), Refusal>
     ensures { let before = words starts.old ends.old letters.now units.now keys.now in
         let after = words starts.new ends.new letters.now units.now keys.now in
         output result after ≡ fit_call before levels.now floor count duration }
 {
-    let rule = word_calls::timed_rule(
+    word_calls::timed_rule(
         starts,
         ends,
         letters,
@@ -73,12 +61,7 @@ pub fn fit_to_sound(
         levels.len(),
         count,
         duration,
-    );
-    match rule {
-        Rule::Breaks(why) => Answer::Refused(why),
-        Rule::Fine => {
-            fit_words(starts, ends, letters, levels, floor, duration);
-            Answer::Accepted
-        }
-    }
+    )?;
+    fit_words(starts, ends, letters, levels, floor, duration);
+    Ok(())
 }

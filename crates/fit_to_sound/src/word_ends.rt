@@ -1,12 +1,11 @@
 // Ends settled on their sound (fit.rs, fit_to_sound, steps 5 and 6).
 ghost use Rattle.std.specs.Prelude.{◌≡◌, ◌<◌, ◌≤◌, ◌^◌, pos, length, Float, Bool, List};
-ghost use Rattle.base.specs.declared.NextStart.TheVariants.{Starts, NoNext};
 ghost use Rattle.base.specs.Words.{edges};
 ghost use Rattle.envelope.specs.Envelope.{loud_row};
 ghost use Rattle.fit_to_sound.specs.FitToSound.{sound_end_in, quiet_between, quiet_run, cut_back, lasts_to, ended_by, end_of, settle_ends};
 ghost use Rattle.fit_to_sound.specs.Parts.{counted as counted_of, is_loose};
 
-use base::{NextStart, SoundEnd, Times};
+use base::Times;
 
 // So many quiet frames in a row, 150 ms, end a word.
 const END_SILENCE: usize = 15;
@@ -17,16 +16,17 @@ const MAX_NEED: f64 = 0.3;
 // What a letter needs, in seconds, at the least.
 const LETTER_TIME: f64 = 0.05;
 // Where the sound that starts between two times ends, or no sound (fit.rs, sound_end).
-fn sound_end_in(levels: &[f64], floor: f64, from: f64, to: f64) -> SoundEnd
+fn sound_end_in(levels: &[f64], floor: f64, from: f64, to: f64) -> Option<f64>
     requires { length levels.now ≤ 2 ^ 40 }
     ensures { result ≡ sound_end_in (loud_row floor levels.now) from to }
 {
     let lo = frames::frame_index(from);
-    let hi = base::least(levels.len(), frames::frame_index(to));
+    let hi = levels.len().min(frames::frame_index(to));
     ends::sound::sound_end(ends::sound::last_loud(levels, floor, END_SILENCE, lo, hi))
 }
 
 // So many quiet frames in a row, with one frame more.
+#[tactic(auto, unfolding(crate::specs::Parts::counted))]
 fn counted(run: usize, loud: bool) -> usize
     requires { run < 15 }
     ensures { result ≡ counted_of loud run }
@@ -42,13 +42,11 @@ fn quiet_between(levels: &[f64], floor: f64, lo: usize, hi: usize) -> bool
     ensures { result ≡ quiet_between (loud_row floor levels.now) (pos lo) (pos hi) }
 {
     let mut run = 0;
-    let mut k = lo;
-    while k < hi {
+    for k in lo..hi {
         run = counted(run, envelope::loud_at(levels, floor, k));
         if run >= END_SILENCE {
             return true;
         }
-        k += 1;
     }
     false
 }
@@ -59,21 +57,20 @@ fn quiet_run(levels: &[f64], floor: f64, from: f64, to: f64) -> bool
     ensures { result ≡ quiet_run (loud_row floor levels.now) from to }
 {
     let lo = frames::frame_index(from);
-    let hi = base::least(levels.len(), frames::frame_index(to));
+    let hi = levels.len().min(frames::frame_index(to));
     quiet_between(levels, floor, lo, hi)
 }
 
 // Whether a word's end lies too far past its sound's end, and the sound is long enough for its letters.
+#[tactic(auto, unfolding(crate::specs::Parts::is_loose))]
 fn is_loose(letters: u32, end: f64, w: Times) -> bool
     ensures { result ≡ is_loose letters end w }
 {
-    if w.end > end + LOOSE {
-        return end - w.start >= js::js_min(MAX_NEED, LETTER_TIME * (letters as f64));
-    }
-    false
+    w.end > end + LOOSE && end - w.start >= js::js_min(MAX_NEED, LETTER_TIME * (letters as f64))
 }
 
 // A loose end is cut back to its sound's end (fit_to_sound, step 5).
+#[tactic(auto, unfolding(crate::specs::FitToSound::cut_back, crate::specs::Parts::is_loose))]
 fn cut_back(letters: u32, end: f64, w: Times) -> Times
     ensures { result ≡ cut_back letters end w }
 {
@@ -87,14 +84,12 @@ fn cut_back(letters: u32, end: f64, w: Times) -> Times
 }
 
 // A word whose next one starts at `next` lasts until that, where no silence lies between.
+#[tactic(auto, unfolding(crate::specs::FitToSound::lasts_to))]
 fn lasts_to_next(levels: &[f64], floor: f64, next: f64, w: Times) -> Times
     requires { length levels.now ≤ 2 ^ 40 }
-    ensures { (end : Float) → result ≡ lasts_to (loud_row floor levels.now) (Starts next) end w }
+    ensures { (end : Float) → result ≡ lasts_to (loud_row floor levels.now) (Some next) end w }
 {
-    if next > w.end {
-        if quiet_run(levels, floor, w.end, next) {
-            return w;
-        }
+    if next > w.end && !quiet_run(levels, floor, w.end, next) {
         return Times {
             start: w.start,
             end: next,
@@ -104,8 +99,9 @@ fn lasts_to_next(levels: &[f64], floor: f64, next: f64, w: Times) -> Times
 }
 
 // The last word lasts until its sound's end.
+#[tactic(auto, unfolding(crate::specs::FitToSound::lasts_to))]
 fn lasts_to_end(end: f64, w: Times) -> Times
-    ensures { (row : List Bool) → result ≡ lasts_to row NoNext end w }
+    ensures { (row : List Bool) → result ≡ lasts_to row None end w }
 {
     if end > w.end {
         return Times {
@@ -117,13 +113,13 @@ fn lasts_to_end(end: f64, w: Times) -> Times
 }
 
 // A word lasts until the next one, where no silence lies between; the last one until its sound's end (fit_to_sound, step 6).
-fn lasts_to(levels: &[f64], floor: f64, next: NextStart, end: f64, w: Times) -> Times
+fn lasts_to(levels: &[f64], floor: f64, next: Option<f64>, end: f64, w: Times) -> Times
     requires { length levels.now ≤ 2 ^ 40 }
     ensures { result ≡ lasts_to (loud_row floor levels.now) next end w }
 {
     match next {
-        NextStart::Starts(s) => lasts_to_next(levels, floor, s, w),
-        NextStart::NoNext => lasts_to_end(end, w),
+        Some(s) => lasts_to_next(levels, floor, s, w),
+        None => lasts_to_end(end, w),
     }
 }
 
@@ -131,17 +127,17 @@ fn lasts_to(levels: &[f64], floor: f64, next: NextStart, end: f64, w: Times) -> 
 fn ended_by(
     levels: &[f64],
     floor: f64,
-    next: NextStart,
+    next: Option<f64>,
     letters: u32,
-    sound: SoundEnd,
+    sound: Option<f64>,
     w: Times,
 ) -> Times
     requires { length levels.now ≤ 2 ^ 40 }
     ensures { result ≡ ended_by (loud_row floor levels.now) next letters sound w }
 {
     match sound {
-        SoundEnd::NoSound => w,
-        SoundEnd::Ends(end) => lasts_to(levels, floor, next, end, cut_back(letters, end, w)),
+        None => w,
+        Some(end) => lasts_to(levels, floor, next, end, cut_back(letters, end, w)),
     }
 }
 
@@ -150,7 +146,7 @@ fn end_of(
     levels: &[f64],
     floor: f64,
     duration: f64,
-    next: NextStart,
+    next: Option<f64>,
     letters: u32,
     w: Times,
 ) -> Times
@@ -180,8 +176,7 @@ pub fn settle_ends(
         let after = edges starts.now ends.new in
         after ≡ settle_ends (loud_row floor levels.now) duration letters.now before }
 {
-    let mut i = 0;
-    while i < starts.len() {
+    for i in 0..starts.len() {
         let w = Times {
             start: starts[i],
             end: ends[i],
@@ -195,6 +190,5 @@ pub fn settle_ends(
             w,
         );
         ends[i] = settled.end;
-        i += 1;
     }
 }

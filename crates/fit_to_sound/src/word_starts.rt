@@ -6,7 +6,7 @@ ghost use Rattle.fit_to_sound.specs.FitToSound.{step_start, in_order, put_in_ord
 ghost use Rattle.fit_to_sound.specs.FitToSound.{clipped, clip as clip_all};
 ghost use Rattle.fit_to_sound.specs.Parts.{stop_index, rise_from};
 
-use base::{NextStart, Times};
+use base::Times;
 
 // From a word's start to the next, in seconds, it is no less.
 const MIN_STEP: f64 = 0.02;
@@ -19,6 +19,7 @@ const MAX_KEEP: f64 = 0.5;
 // So many loud frames in a row make a sound's start.
 const LOUD_RUN: usize = 3;
 // Word i's start, 0.02 s after the start before it at the least.
+#[tactic(auto, unfolding(crate::specs::FitToSound::step_start))]
 fn step_start(starts: &[f64], i: usize) -> f64
     requires { i < length starts.now }
     ensures { result ≡ step_start starts.now i }
@@ -30,6 +31,7 @@ fn step_start(starts: &[f64], i: usize) -> f64
 }
 
 // A word that ends no sooner than it starts, and no later than the duration.
+#[tactic(auto, unfolding(crate::specs::FitToSound::in_order))]
 fn in_order(duration: f64, w: Times) -> Times
     ensures { result ≡ in_order duration w }
 {
@@ -44,8 +46,7 @@ pub fn put_in_order(starts: &mut [f64], ends: &mut [f64], duration: f64)
     requires { length ends.old ≡ length starts.old }
     ensures { edges starts.new ends.new ≡ put_in_order duration (edges starts.old ends.old) }
 {
-    let mut i = 0;
-    while i < starts.len() {
+    for i in 0..starts.len() {
         let w = in_order(
             duration,
             Times {
@@ -55,21 +56,19 @@ pub fn put_in_order(starts: &mut [f64], ends: &mut [f64], duration: f64)
         );
         starts[i] = w.start;
         ends[i] = w.end;
-        i += 1;
     }
 }
 
 // Whether frames k to k + 2 are loud.
+#[tactic(auto, unfolding(crate::specs::FitToSound::is_loud_run))]
 fn is_loud_run(levels: &[f64], floor: f64, k: usize) -> bool
     requires { k ≤ 2 ^ 40 }
     ensures { result ≡ is_loud_run (loud_row floor levels.now) (pos k) }
 {
-    if envelope::loud_at(levels, floor, k) {
-        if envelope::loud_at(levels, floor, k + 1) {
-            return envelope::loud_at(levels, floor, k + 2);
-        }
-    }
-    false
+    // Each frame of a search comes here: all() over a range takes twice the instructions.
+    envelope::loud_at(levels, floor, k)
+        && envelope::loud_at(levels, floor, k + 1)
+        && envelope::loud_at(levels, floor, k + 2)
 }
 
 // The first frame from f to before stop at which a sound starts; where there is none, the end of the search.
@@ -77,27 +76,24 @@ fn rise_frame(levels: &[f64], floor: f64, f: usize, stop: usize) -> usize
     requires { stop ≤ 2 ^ 40 }
     ensures { pos result ≡ rise_frame (loud_row floor levels.now) (pos f) (pos stop) }
 {
-    let mut k = f;
-    while k < stop {
+    for k in f..stop {
         if is_loud_run(levels, floor, k) {
             return k;
         }
-        k += 1;
     }
-    k
+    f.max(stop)
 }
 
 // The frame at which a word's search stops before the next word; `last` where there is none.
-fn stop_before(next: NextStart, last: usize) -> usize
+#[tactic(auto, unfolding(crate::specs::Parts::stop_index))]
+fn stop_before(next: Option<f64>, last: usize) -> usize
     ensures { result ≡ stop_index next last }
 {
-    match next {
-        NextStart::Starts(s) => frames::frame_index(s - BEFORE_NEXT),
-        NextStart::NoNext => last,
-    }
+    next.map_or(last, |s| frames::frame_index(s - BEFORE_NEXT))
 }
 
 // The word with another start; it keeps at most 0.5 s of its length, and ends no sooner than it did.
+#[tactic(auto, unfolding(crate::specs::FitToSound::moved_to))]
 fn moved_to(start: f64, w: Times) -> Times
     ensures { result ≡ moved_to start w }
 {
@@ -108,13 +104,13 @@ fn moved_to(start: f64, w: Times) -> Times
 }
 
 // A word whose first frame f, of which three more follow, is quiet: it starts where its sound does, if that is soon enough.
-fn rise_from(levels: &[f64], floor: f64, f: usize, next: NextStart, w: Times) -> Times
+fn rise_from(levels: &[f64], floor: f64, f: usize, next: Option<f64>, w: Times) -> Times
     requires { (f + 3 < length levels.now) × (length levels.now ≤ 2 ^ 40) }
     ensures { result ≡ rise_from (loud_row floor levels.now) (pos f) next w }
 {
     let last = levels.len() - LOUD_RUN;
-    let ahead = base::least(last, frames::frame_index(w.start + SEARCH_AHEAD));
-    let stop = base::least(ahead, stop_before(next, last));
+    let ahead = last.min(frames::frame_index(w.start + SEARCH_AHEAD));
+    let stop = ahead.min(stop_before(next, last));
     let k = rise_frame(levels, floor, f, stop);
     if k < stop {
         return moved_to(frames::index_seconds(k), w);
@@ -123,7 +119,7 @@ fn rise_from(levels: &[f64], floor: f64, f: usize, next: NextStart, w: Times) ->
 }
 
 // A word that starts in silence starts where its sound does (fit_to_sound, step 2).
-fn rise_of(levels: &[f64], floor: f64, next: NextStart, w: Times) -> Times
+fn rise_of(levels: &[f64], floor: f64, next: Option<f64>, w: Times) -> Times
     requires { length levels.now ≤ 2 ^ 40 }
     ensures { result ≡ rise_of (loud_row floor levels.now) next w }
 {
@@ -144,8 +140,7 @@ pub fn move_to_rise(starts: &mut [f64], ends: &mut [f64], levels: &[f64], floor:
         let after = edges starts.new ends.new in
         after ≡ move_to_rise (loud_row floor levels.now) before }
 {
-    let mut i = 0;
-    while i < starts.len() {
+    for i in 0..starts.len() {
         let w = rise_of(
             levels,
             floor,
@@ -157,11 +152,11 @@ pub fn move_to_rise(starts: &mut [f64], ends: &mut [f64], levels: &[f64], floor:
         );
         starts[i] = w.start;
         ends[i] = w.end;
-        i += 1;
     }
 }
 
 // A word that runs into the next one ends where that starts, but not before its own start.
+#[tactic(auto, unfolding(crate::specs::FitToSound::clipped))]
 fn clipped_to(next: f64, w: Times) -> Times
     ensures { result ≡ clipped next w }
 {
@@ -179,8 +174,7 @@ pub fn clip(starts: &[f64], ends: &mut [f64])
     requires { length ends.old ≡ length starts.now }
     ensures { edges starts.now ends.new ≡ clip_all (edges starts.now ends.old) }
 {
-    let mut i = 0;
-    while i + 1 < starts.len() {
+    for i in 0..starts.len().saturating_sub(1) {
         let w = clipped_to(
             starts[i + 1],
             Times {
@@ -189,6 +183,5 @@ pub fn clip(starts: &[f64], ends: &mut [f64])
             },
         );
         ends[i] = w.end;
-        i += 1;
     }
 }

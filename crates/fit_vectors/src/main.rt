@@ -20,12 +20,10 @@
 // A row is wrong where the call refuses it.
 #![tactic(auto)]
 
-use std::io::{self, Read};
-
-// The places of a tally: one for each kind of row, and the last for what is no row.
-const PLACES: usize = 8;
-
-const UNREADABLE: usize = 7;
+use std::io;
+use std::num::f64_from_bits_with_nan as float;
+use vector_rows::numbers::{has_bits, levels};
+use vector_rows::rows::{RowKind, replay};
 
 // A frame above this level is loud.
 const FLOOR: f64 = 0.5;
@@ -36,52 +34,94 @@ const SAMPLES: usize = 10240;
 // How long it is, in seconds; a word ends there.
 const DURATION: f64 = 0.64;
 
-// The place of a kind in a tally.
-fn place(kind: u8) -> usize {
-    match kind {
-        b'R' => 0,
-        b'Q' => 1,
-        b'I' => 2,
-        b'J' => 3,
-        b'M' => 4,
-        b'N' => 5,
-        b'X' => 6,
-        _ => UNREADABLE,
+// Which of two times a row asks for.
+#[derive(Clone, Copy, Debug, PartialEq, Eq)]
+enum Edge {
+    Start,
+    End,
+}
+
+// What a row asks for.
+#[derive(Clone, Copy, Debug, PartialEq, Eq)]
+enum Kind {
+    LastRun(Edge),
+    Fit(Edge),
+    Phrase(Edge),
+    PlantedLastRun,
+}
+
+// The kinds, in the order of their lines.
+const KINDS: [Kind; 7] = [
+    Kind::LastRun(Edge::Start),
+    Kind::LastRun(Edge::End),
+    Kind::Fit(Edge::Start),
+    Kind::Fit(Edge::End),
+    Kind::Phrase(Edge::Start),
+    Kind::Phrase(Edge::End),
+    Kind::PlantedLastRun,
+];
+
+impl RowKind for Kind {
+    fn letter(self) -> u8 {
+        match self {
+            Kind::LastRun(Edge::Start) => b'R',
+            Kind::LastRun(Edge::End) => b'Q',
+            Kind::Fit(Edge::Start) => b'I',
+            Kind::Fit(Edge::End) => b'J',
+            Kind::Phrase(Edge::Start) => b'M',
+            Kind::Phrase(Edge::End) => b'N',
+            Kind::PlantedLastRun => b'X',
+        }
+    }
+
+    fn name(self) -> &'static str {
+        match self {
+            Kind::LastRun(Edge::Start) => "last run starts",
+            Kind::LastRun(Edge::End) => "last run ends",
+            Kind::Fit(Edge::Start) => "fit starts",
+            Kind::Fit(Edge::End) => "fit ends",
+            Kind::Phrase(Edge::Start) => "phrase starts",
+            Kind::Phrase(Edge::End) => "phrase ends",
+            Kind::PlantedLastRun => "planted last run",
+        }
+    }
+
+    fn is_right(self, a: u64, b: u64, r: u64) -> bool {
+        let levels = levels(b);
+        let time = float(a);
+        match self {
+            Kind::LastRun(edge) => is_edge(edge, run_times(&levels, time), r),
+            Kind::Fit(edge) => is_edge(edge, fitted_times(&levels, time), r),
+            Kind::Phrase(edge) => is_edge(edge, filed_times(&levels, time), r),
+            Kind::PlantedLastRun => is_edge(Edge::Start, run_times(&levels, time), r),
+        }
     }
 }
 
-// The time that a kind asks for.
-fn asked(kind: u8, start: f64, end: f64) -> f64 {
-    match kind {
-        b'Q' | b'J' | b'N' => end,
-        _ => start,
+// Whether there are a start and an end, and the one asked for has these bits.
+fn is_edge(edge: Edge, times: Option<(f64, f64)>, bits: u64) -> bool {
+    match (edge, times) {
+        (Edge::Start, Some((start, _))) => has_bits(start, bits),
+        (Edge::End, Some((_, end))) => has_bits(end, bits),
+        (_, None) => false,
     }
 }
 
-// The time that a kind asks for of a last run; NaN where there is no sound.
-fn run_time(kind: u8, run: last_run::Run) -> f64 {
-    match run {
-        last_run::Run::Sound(start, end) => asked(kind, start, end),
-        last_run::Run::Nothing => 0.0 / 0.0,
+// The start and the end of the last run up to a time, each a NaN where there is no sound.
+fn run_times(levels: &[f64; 64], to: f64) -> Option<(f64, f64)> {
+    match last_run::last_run_at(levels, FLOOR, SAMPLES, 0.0, to).ok()? {
+        Some(run) => Some((run.start, run.end)),
+        None => Some((f64::NAN, f64::NAN)),
     }
 }
 
-// Whether r is what is asked for of the last run up to a time.
-fn is_run(kind: u8, levels: &[f64; 64], to: f64, r: u64) -> bool {
-    let answer = last_run::last_run_at(levels, FLOOR, SAMPLES, 0.0, to);
-    match answer {
-        last_run::Answer::Accepted(run) => vector_rows::same(run_time(kind, run), r),
-        last_run::Answer::Refused(_) => false,
-    }
-}
-
-// Whether r is what is asked for of a word that is fitted.
-fn is_fitted(kind: u8, levels: &[f64; 64], start: f64, r: u64) -> bool {
-    let mut starts = [start; 1];
-    let mut ends = [DURATION; 1];
-    let letters = [4u32; 1];
-    let ones = [1u32; 1];
-    let answer = fit_to_sound::fit_to_sound(
+// The start and the end of a word that is fitted.
+fn fitted_times(levels: &[f64; 64], start: f64) -> Option<(f64, f64)> {
+    let mut starts = [start];
+    let mut ends = [DURATION];
+    let letters = [4];
+    let ones = [1];
+    fit_to_sound::fit_to_sound(
         levels,
         FLOOR,
         SAMPLES,
@@ -91,26 +131,24 @@ fn is_fitted(kind: u8, levels: &[f64; 64], start: f64, r: u64) -> bool {
         &ones,
         &ones,
         DURATION,
-    );
-    match answer {
-        limits::Answer::Accepted => vector_rows::same(asked(kind, starts[0], ends[0]), r),
-        limits::Answer::Refused(_) => false,
-    }
+    )
+    .ok()?;
+    Some((starts[0], ends[0]))
 }
 
-// Whether r is what is asked for of a word that is fitted in its phrase.
-fn is_filed(kind: u8, levels: &[f64; 64], start: f64, r: u64) -> bool {
-    let mut starts = [start; 1];
-    let mut ends = [DURATION; 1];
-    let letters = [4u32; 1];
-    let ones = [1u32; 1];
-    let phrases = [0u32; 1];
-    let span_starts = [0.0; 1];
-    let span_ends = [DURATION; 1];
-    let mut work_starts = [0.0; 1];
-    let mut work_ends = [0.0; 1];
-    let mut work_letters = [0u32; 1];
-    let answer = fit_file::fit_file_at(
+// The start and the end of a word that is fitted in its phrase.
+fn filed_times(levels: &[f64; 64], start: f64) -> Option<(f64, f64)> {
+    let mut starts = [start];
+    let mut ends = [DURATION];
+    let letters = [4];
+    let ones = [1];
+    let phrases = [0];
+    let span_starts = [0.0];
+    let span_ends = [DURATION];
+    let mut work_starts = [0.0];
+    let mut work_ends = [0.0];
+    let mut work_letters = [0];
+    fit_file::fit_file_at(
         levels,
         FLOOR,
         SAMPLES,
@@ -126,110 +164,11 @@ fn is_filed(kind: u8, levels: &[f64; 64], start: f64, r: u64) -> bool {
         &mut work_starts,
         &mut work_ends,
         &mut work_letters,
-    );
-    match answer {
-        limits::Answer::Accepted => vector_rows::same(asked(kind, starts[0], ends[0]), r),
-        limits::Answer::Refused(_) => false,
-    }
-}
-
-// Whether r is the answer for a time and a recording, for each kind of row.
-fn is_right(kind: u8, time: f64, loud: u64, r: u64) -> bool {
-    let mut levels = [0.0; 64];
-    vector_rows::set_levels(&mut levels, loud);
-    match kind {
-        b'R' | b'Q' | b'X' => is_run(kind, &levels, time, r),
-        b'I' | b'J' => is_fitted(kind, &levels, time, r),
-        b'M' | b'N' => is_filed(kind, &levels, time, r),
-        _ => false,
-    }
-}
-
-// Adds one at a place of a tally.
-fn add(tally: &mut [u64; 8], at: usize) {
-    if at < PLACES {
-        if tally[at] < u64::MAX {
-            tally[at] += 1;
-        }
-    }
-}
-
-// Counts a row, and counts it as wrong where its answer is.
-fn judge(row: &[u8; 53], compared: &mut [u64; 8], wrong: &mut [u64; 8]) {
-    let a = vector_rows::number(row, 2);
-    let b = vector_rows::number(row, 19);
-    let r = vector_rows::number(row, 36);
-    if (a.seen | b.seen | r.seen) > 15 || !vector_rows::is_spaced(row) {
-        add(compared, UNREADABLE);
-        return;
-    }
-    add(compared, place(row[0]));
-    if !is_right(row[0], vector_rows::float(a.bits), b.bits, r.bits) {
-        add(wrong, place(row[0]));
-    }
-}
-
-// Reads one row and judges it; answers whether to go on.
-fn take_row<R: Read>(
-    input: &mut R,
-    compared: &mut [u64; 8],
-    wrong: &mut [u64; 8],
-) -> io::Result<bool> {
-    let mut row = [0u8; 53];
-    let n = vector_rows::read_row(input, &mut row)?;
-    if n == 0 {
-        return Ok(false);
-    }
-    if n < 53 {
-        add(compared, UNREADABLE);
-        return Ok(false);
-    }
-    judge(&row, compared, wrong);
-    Ok(true)
-}
-
-// Judges every row. A proved loop has to end, and nothing says that the input does, so it has so
-// many turns that no run uses them up.
-fn take_all<R: Read>(
-    input: &mut R,
-    compared: &mut [u64; 8],
-    wrong: &mut [u64; 8],
-) -> io::Result<()> {
-    for _ in 0..u64::MAX {
-        if !take_row(input, compared, wrong)? {
-            break;
-        }
-    }
-    Ok(())
-}
-
-// Writes a line for one kind.
-fn print_line(rt: &impl Print, name: &str, compared: u64, wrong: u64) -> io::Result<()> {
-    println!(rt; "{name} {compared} compared, {wrong} wrong")
-}
-
-// Writes the lines of last runs.
-fn print_runs(rt: &impl Print, compared: &[u64; 8], wrong: &[u64; 8]) -> io::Result<()> {
-    print_line(rt, "last run starts", compared[0], wrong[0])?;
-    print_line(rt, "last run ends", compared[1], wrong[1])?;
-    Ok(())
-}
-
-// Writes the lines of words.
-fn print_words(rt: &impl Print, compared: &[u64; 8], wrong: &[u64; 8]) -> io::Result<()> {
-    print_line(rt, "fit starts", compared[2], wrong[2])?;
-    print_line(rt, "fit ends", compared[3], wrong[3])?;
-    print_line(rt, "phrase starts", compared[4], wrong[4])?;
-    print_line(rt, "phrase ends", compared[5], wrong[5])?;
-    Ok(())
+    )
+    .ok()?;
+    Some((starts[0], ends[0]))
 }
 
 fn main(rt: HostRuntime) -> io::Result<()> {
-    let mut compared = [0u64; 8];
-    let mut wrong = [0u64; 8];
-    take_all(&mut rt.stdin(), &mut compared, &mut wrong)?;
-    print_runs(&rt, &compared, &wrong)?;
-    print_words(&rt, &compared, &wrong)?;
-    print_line(&rt, "planted last run", compared[6], wrong[6])?;
-    println!(rt; "unreadable {}", compared[UNREADABLE])
+    replay(&rt, &KINDS, &mut rt.stdin())
 }

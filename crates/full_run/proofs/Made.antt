@@ -1,4 +1,7 @@
 -- What the code makes: the tests as the definition has them, the levels in the first places, and the answer of a run. Assumes nothing.
+use Rattle.full_run.specs.declared.Report.{Report}
+use Rattle.base.specs.Refusals.{Rule}
+use Rattle.std.specs.Prelude.{Ok, Err, Result}
 use Prim.Native.Nat.{ℕ, ◌≤◌, min}
 use mathlib.Core.Path.{◌≡◌, refl, sym, ap, subst, ◌∙◌}
 use mathlib.Core.List.{List, ◌++◌}
@@ -8,8 +11,6 @@ use lib.ListN.{length, drop}
 use lib.Ieee.{Float}
 use Rattle.base.specs.Words.{Words, Spans, spans, count, part}
 use Rattle.base.specs.declared.Refusal.{Refusal}
-use Rattle.base.specs.declared.Rule.{Rule}
-use Rattle.base.specs.declared.Rule.TheVariants.{Fine, Breaks}
 use Rattle.limits.specs.Order.{chain}
 use Rattle.word_calls.proofs.Within.{one-length, letters-most}
 use Rattle.envelope.specs.Envelope.{frames, levels, floor, loud_row, quiet_row}
@@ -22,8 +23,6 @@ use Rattle.run_stages.specs.Parts.{Ready, FewLetters, Running}
 use Rattle.run_stages.specs.Stages.{run_on}
 use Rattle.run_stages.specs.declared.Outcome.{Outcome}
 use Rattle.full_run.specs.FullRun.{Input, input, run_of, run_applies, output, accepted, full_run}
-use Rattle.full_run.specs.declared.Answer.{Answer}
-use Rattle.full_run.specs.declared.Answer.TheVariants.{Accepted, Refused}
 use Rattle.full_run.proofs.Promises.{within, run_by}
 
 -- ---- the tests as the definition has them
@@ -42,10 +41,10 @@ module _ (samples : List Float) (ws : Words) (spans : Spans) (phrases : List ℕ
   given = input samples ws spans phrases places s e (work_places a b d)
 
   -- ---- what an accepted run has
-  pub hear-ready : chain (run_applies given) ≡ Fine → (length samples ≤ 57600000) × (frames samples ≤ length places)
+  pub hear-ready : chain (run_applies given) ≡ Ok tt → (length samples ≤ 57600000) × (frames samples ≤ length places)
   hear-ready h = let w = within given h in (w.few-samples, w.level-places)
 
-  pub after-ready : {ls : List Float} → chain (run_applies given) ≡ Fine → ls ≡ levels samples ++ drop (frames samples) places
+  pub after-ready : {ls : List Float} → chain (run_applies given) ≡ Ok tt → ls ≡ levels samples ++ drop (frames samples) places
       → Ready ws spans (length phrases) (length (part 0 (frames samples) ls)) a b d
       × (FewLetters ws.letters × PiecesReady (length (part 0 (frames samples) ls)) (length samples) (length s) (length e))
   after-ready {ls} h k =
@@ -76,7 +75,7 @@ module _ (samples : List Float) (ws : Words) (spans : Spans) (phrases : List ℕ
   -- ---- the answer, and what the lent places hold
   pub accept-is : {ls : List Float} {f : Float} {out : Outcome} {after : Words} {numbers starts ends : List ℕ} → (ls ≡ levels samples ++ drop (frames samples) places) × (f ≡ floor (levels samples))
       → Running (run_on (loud_row f (part 0 (frames samples) ls)) (quiet_row f (part 0 (frames samples) ls)) (length samples) spans phrases ws) (count ws) out after numbers s e starts ends
-      → output (Accepted (record { floor = f; pieces = out.pieces; words = out.words; found = out.found })) after numbers ls starts ends ≡ accepted given (run_of given)
+      → output (Ok (record { floor = f; pieces = out.pieces; words = out.words; found = out.found })) after numbers ls starts ends ≡ accepted given (run_of given)
   unfolding run_of starts_over ends_over
   accept-is {ls} {f} {out} {after} {numbers} {starts} {ends} (h, k) running =
       let front : part 0 (frames samples) ls ≡ levels samples = rw (sub-zero, front-levels samples places ls h) in
@@ -91,13 +90,13 @@ module _ (samples : List Float) (ws : Words) (spans : Spans) (phrases : List ℕ
     rule-is = judged ∙ ap chain (rw (ep, ew, e₀) (applies-are samples ws spans phrases places s e (work_places a b d)))
 
     -- ---- refused, by what the tests found
-    pub refused-made : {why : Refusal} → rule ≡ Breaks why → output (Refused why) ws phrases places s e ≡ full_run given
+    pub refused-made : {why : Refusal} → rule ≡ Err why → output (Err why) ws phrases places s e ≡ full_run given
     refused-made h = sym (run_by given (sym rule-is ∙ h))
 
     -- ---- accepted, by what the tests found
-    pub all-fine : rule ≡ Fine → chain (run_applies given) ≡ Fine
+    pub all-fine : rule ≡ Ok tt → chain (run_applies given) ≡ Ok tt
     all-fine h = sym rule-is ∙ h
 
-    pub accepted-made : {r : Answer} {after : Words} {numbers starts ends : List ℕ} {ls : List Float} → rule ≡ Fine → output r after numbers ls starts ends ≡ accepted given (run_of given)
+    pub accepted-made : {r : Result Report Refusal} {after : Words} {numbers starts ends : List ℕ} {ls : List Float} → rule ≡ Ok tt → output r after numbers ls starts ends ≡ accepted given (run_of given)
         → output r after numbers ls starts ends ≡ full_run given
     accepted-made h k = k ∙ sym (run_by given (all-fine h))

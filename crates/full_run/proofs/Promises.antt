@@ -1,6 +1,7 @@
 -- The full run in plain words: accepted exactly when words, spans and samples are within the limits and the places suffice, refused exactly with the first refusal
 -- that applies; a refusal changes nothing, and refusals 7 and 8 cannot arise. Every cut that an accepted run leaves lies 1,203 frames or more beyond its piece's start. By reading
 -- what the tests find. Assumes nothing.
+use Rattle.std.specs.Prelude.{Ok, Err}
 use Prim.Native.Nat.{ℕ, ◌≤◌, min}
 use mathlib.Core.Bool.{false}
 use mathlib.Core.List.{List, [], ◌∷◌}
@@ -11,9 +12,7 @@ use borrow.Author.Tests.{eq-eqb}
 use lib.ListN.{length}
 use lib.Ieee.{Float}
 use Rattle.base.specs.Words.{count}
-use Rattle.base.specs.Refusals.{None, First, Says, accepts, refuses, Among, Judged, says_of, Listed}
-use Rattle.base.specs.declared.Rule.{Rule}
-use Rattle.base.specs.declared.Rule.TheVariants.{Fine, Breaks}
+use Rattle.base.specs.Refusals.{NoneApplies, First, Says, accepts, refuses, Among, Judged, says_of, Listed, Rule, says}
 use Rattle.base.proofs.First.{apart, fine-none, none-fine, judged}
 use Rattle.limits.specs.Limits.{other_levels}
 use Rattle.limits.specs.Order.{when, also, in_order, chain}
@@ -26,7 +25,7 @@ use Rattle.envelope.proofs.Places.{length-levels}
 use Rattle.pieces.specs.Pieces.{need, walked, CutsApart}
 use Rattle.pieces.proofs.Walk.{never_stuck, pieces-over-apart}
 use Rattle.run_stages.specs.Stages.{run_on}
-use Rattle.full_run.specs.FullRun.{Input, run_of, run_applies, RunWithin, says, output, report_of, accepted, by_rule, full_run}
+use Rattle.full_run.specs.FullRun.{Input, run_of, run_applies, RunWithin, output, report_of, accepted, by_rule, full_run}
 use Rattle.full_run.specs.declared.Report.{Report}
 
 -- a number that is none of 3, 4, 1, 2, 6
@@ -42,7 +41,7 @@ module _ (i : Input) where
   -- ---- no test applies exactly when all is within the limits
   tests-exactly : ((WordsWithin i.words × (SpansWithin i.spans × (length i.samples ≤ 57600000)))
       × ((frames i.samples ≤ length i.levels) × ((need (frames i.samples) ≤ min (length i.piece_starts) (length i.piece_ends))
-      × ((count i.words ≤ length i.phrases) × (count i.words ≤ i.work))))) ↔ None (in_order (run_applies i))
+      × ((count i.words ≤ length i.phrases) × (count i.words ≤ i.work))))) ↔ NoneApplies (in_order (run_applies i))
   unfolding run_applies
   tests-exactly =
       also-exactly _ _ (also-exactly _ _ (words-exactly i.words) (also-exactly _ _ (spans-exactly i.spans) (samples-exactly (length i.samples))))
@@ -50,16 +49,16 @@ module _ (i : Input) where
       (also-exactly _ _ (places-exactly (min (length i.piece_starts) (length i.piece_ends)) (need (frames i.samples)))
       (also-exactly _ _ (places-exactly (length i.phrases) (count i.words)) (places-exactly i.work (count i.words)))))
 
-  pub within-exactly : RunWithin i ↔ None (in_order (run_applies i))
+  pub within-exactly : RunWithin i ↔ NoneApplies (in_order (run_applies i))
   within-exactly = (to, from)
     where
-      to : RunWithin i → None (in_order (run_applies i))
+      to : RunWithin i → NoneApplies (in_order (run_applies i))
       to r = tests-exactly.0 (
         (r.words-within, (r.spans-within, r.few-samples)),
         (r.level-places, (omega (arith, r.start-places, r.end-places), (r.phrase-places, r.work-places))),
       )
 
-      from : None (in_order (run_applies i)) → RunWithin i
+      from : NoneApplies (in_order (run_applies i)) → RunWithin i
       from n =
           let t = tests-exactly.1 n in
           record {
@@ -79,25 +78,25 @@ module _ (i : Input) where
   run_by e = ap (λ (r : Rule). by_rule r i) e
 
   rule-says : (r : Rule) → says (by_rule r i).answer ≡ says_of (report_of (floor (levels i.samples)) (run_of i)) r
-  rule-says Fine = refl
-  rule-says (Breaks why) = refl
+  rule-says (Ok u) = refl
+  rule-says (Err why) = refl
 
-  said-fine : (r : Report) → says (full_run i).answer ≡ accepts r → chain (run_applies i) ≡ Fine
+  said-fine : (r : Report) → says (full_run i).answer ≡ accepts r → chain (run_applies i) ≡ Ok tt
   unfolding full_run
   said-fine r = go (chain (run_applies i)) where
-    go : (t : Rule) → says (by_rule t i).answer ≡ accepts r → t ≡ Fine
-    go Fine h = refl
-    go (Breaks why) h = apart (sym h)
+    go : (t : Rule) → says (by_rule t i).answer ≡ accepts r → t ≡ Ok tt
+    go (Ok u) h = refl
+    go (Err why) h = apart (sym h)
 
   listed : Listed (3 ∷ 4 ∷ 1 ∷ 2 ∷ 6 ∷ []) (in_order (run_applies i))
   unfolding in_order run_applies of_places of_spans of_samples of_words also when
   listed = (inr (inl refl), (inr (inr (inl refl)), (inr (inr (inr (inl refl))), (inr (inr (inr (inr (inl refl)))), (inl refl, (inr (inr (inr (inr (inr (inl refl))))), (inl refl, tt)))))))
 
-  pub fine : RunWithin i → chain (run_applies i) ≡ Fine
+  pub fine : RunWithin i → chain (run_applies i) ≡ Ok tt
   unfolding chain
   fine w = none-fine (in_order (run_applies i)) (within-exactly.0 w)
 
-  pub within : chain (run_applies i) ≡ Fine → RunWithin i
+  pub within : chain (run_applies i) ≡ Ok tt → RunWithin i
   unfolding chain
   within h = within-exactly.1 (fine-none (in_order (run_applies i)) h)
 
@@ -125,8 +124,8 @@ module _ (i : Input) where
   unfolding full_run
   refusal-changes-nothing n = go (chain (run_applies i)) where
     go : (t : Rule) → says (by_rule t i).answer ≡ refuses n → by_rule t i ≡ output (by_rule t i).answer i.words i.phrases i.levels i.piece_starts i.piece_ends
-    go Fine h = apart h
-    go (Breaks why) h = refl
+    go (Ok u) h = apart h
+    go (Err why) h = refl
 
   -- ---- Every cut of a run that is accepted lies at least 1,203 frames beyond its piece's start, whatever the samples hold.
   pub pieces-apart : (r : Report) → says (full_run i).answer ≡ accepts r → CutsApart r.pieces (full_run i).piece_starts (full_run i).piece_ends

@@ -1,5 +1,7 @@
 -- What the code makes: what an accepted run has, and the answer by what the tests found. The tests look at how many samples there are, and at no
 -- sample: a recording of silence stands for any other of its length. Assumes nothing.
+use Rattle.base.specs.Refusals.{Rule}
+use Rattle.std.specs.Prelude.{Ok, Err}
 use Prim.Native.Nat.{ℕ, ◌/◌, ◌≤◌, min}
 use mathlib.Core.Path.{◌≡◌, refl, sym, ap, ◌∙◌, subst}
 use mathlib.Core.List.{List}
@@ -8,8 +10,6 @@ use lib.ListN.{length, replicate, length-replicate}
 use lib.Ieee.{Float}
 use Rattle.base.specs.Words.{Words, Spans, count, zero_f}
 use Rattle.base.specs.declared.Refusal.{Refusal}
-use Rattle.base.specs.declared.Rule.{Rule}
-use Rattle.base.specs.declared.Rule.TheVariants.{Fine, Breaks}
 use Rattle.limits.specs.Order.{chain}
 use Rattle.word_calls.proofs.Within.{one-length, letters-most}
 use Rattle.envelope.specs.Envelope.{floor, loud_row, quiet_row}
@@ -19,7 +19,6 @@ use Rattle.run_stages.specs.Parts.{Ready, FewLetters, Running}
 use Rattle.run_stages.specs.Stages.{Run, run_on}
 use Rattle.run_stages.specs.declared.Outcome.{Outcome}
 use Rattle.full_run.specs.FullRun.{Input, input, run_applies, RunWithin}
-use Rattle.full_run.specs.declared.Answer.TheVariants.{Accepted, Refused}
 use Rattle.full_run.proofs.Promises.{within}
 use Rattle.full_run.proofs.Made.{applies-are}
 
@@ -27,7 +26,7 @@ module _ (ls : List Float) (samples : ℕ) (ws : Words) (spans : Spans) (phrases
   abbrev silent : Input
   silent = input (replicate samples zero_f) ws spans phrases ls starts ends work
 
-  pub run-within : length ends ≡ length starts → chain (applies_to samples ws spans (length phrases) (length ls) (length starts) work) ≡ Fine → RunWithin silent
+  pub run-within : length ends ≡ length starts → chain (applies_to samples ws spans (length phrases) (length ls) (length starts) work) ≡ Ok tt → RunWithin silent
   run-within e h = within silent (sym (ap chain same) ∙ h) where
     same : applies_to samples ws spans (length phrases) (length ls) (length starts) work ≡ run_applies silent
     same =
@@ -37,7 +36,7 @@ module _ (ls : List Float) (samples : ℕ) (ws : Words) (spans : Spans) (phrases
 
   -- ---- what an accepted run has
   pub stages-ready : {b d : ℕ} → (length ls ≡ samples / 160) × ((length ends ≡ length starts) × ((b ≡ work) × (d ≡ work)))
-      → chain (applies_to samples ws spans (length phrases) (length ls) (length starts) work) ≡ Fine
+      → chain (applies_to samples ws spans (length phrases) (length ls) (length starts) work) ≡ Ok tt
       → Ready ws spans (length phrases) (length ls) work b d × (FewLetters ws.letters × PiecesReady (length ls) samples (length starts) (length ends))
   stages-ready (own, (two, (eb, ed))) h =
       let w = run-within two h in
@@ -67,14 +66,14 @@ module _ (ls : List Float) (samples : ℕ) (ws : Words) (spans : Spans) (phrases
   run f = run_on (loud_row f ls) (quiet_row f ls) samples spans phrases ws
 
   -- ---- the answer, by what the tests found
-  pub heard-refused : (f : Float) (after : Words) (numbers s e : List ℕ) {found : Rule} {why : Refusal} → found ≡ rule → found ≡ Breaks why
-      → Heard rule f (run f) (Refused why) ws after numbers starts ends s e
+  pub heard-refused : (f : Float) (after : Words) (numbers s e : List ℕ) {found : Rule} {why : Refusal} → found ≡ rule → found ≡ Err why
+      → Heard rule f (run f) (Err why) ws after numbers starts ends s e
   unfolding Heard
   heard-refused f after numbers s e {found} {why} same h = rw (sym same ∙ h) refl
 
-  pub heard-accepted : {found : Rule} {f : Float} {out : Outcome} {after : Words} {numbers s e : List ℕ} → found ≡ rule → found ≡ Fine → f ≡ floor ls
+  pub heard-accepted : {found : Rule} {f : Float} {out : Outcome} {after : Words} {numbers s e : List ℕ} → found ≡ rule → found ≡ Ok tt → f ≡ floor ls
       → Running (run f) (count ws) out after numbers starts ends s e
-      → Heard rule (floor ls) (run (floor ls)) (Accepted (record { floor = f; pieces = out.pieces; words = out.words; found = out.found })) ws after numbers starts ends s e
+      → Heard rule (floor ls) (run (floor ls)) (Ok (record { floor = f; pieces = out.pieces; words = out.words; found = out.found })) ws after numbers starts ends s e
   unfolding Heard
   heard-accepted {found} {f} {out} {after} {numbers} {s} {e} same h k running =
       let r = subst (λ (g : Float). Running (run g) (count ws) out after numbers starts ends s e) k running in

@@ -1,4 +1,5 @@
 -- Inputs for each answer of the full run, by computing it: one that is accepted, with all that it leaves, and one for each refusal that can arise. Assumes nothing.
+use Rattle.std.specs.Prelude.{Ok, Err}
 use Prim.Native.Nat.{ℕ}
 use mathlib.Core.Bool.{false}
 use mathlib.Core.List.{List, [], ◌∷◌, ◌++◌, map}
@@ -33,7 +34,6 @@ use Rattle.fit_to_sound.specs.FitToSound.{fit_to_sound}
 use Rattle.fit_file.specs.FitFile.{duration_of}
 use Rattle.run_stages.specs.Stages.{snapped, as_one, settled, Run, run_on}
 use Rattle.full_run.specs.FullRun.{Input, run_of, run_applies, Output, output, report_of, full_run}
-use Rattle.full_run.specs.declared.Answer.TheVariants.{Accepted, Refused}
 
 abbrev zero-s : Float
 zero-s = fin false 0 (pos 0)
@@ -77,11 +77,11 @@ lent ws sp work = record {
 abbrev left : List Float → ℕ → Output
 left ls samples =
     let r : Run = run_on (loud_row (floor ls) ls) (quiet_row (floor ls) ls) samples no-spans (7 ∷ 8 ∷ []) (one half) in
-    output (Accepted (report_of (floor ls) r)) (words_in_places 1 r.words) r.phrases
+    output (Ok (report_of (floor ls) r)) (words_in_places 1 r.words) r.phrases
     (ls ++ drop (length ls) (nan ∷ half ∷ [])) (over (map (λ p. p.start) r.pieces) (7 ∷ 8 ∷ [])) (over (map (λ p. p.end) r.pieces) (7 ∷ 8 ∷ []))
 
 left-computed : left (half ∷ []) 160
-    ≡ output (Accepted (record { floor = of_bits binary64 0x3f74_7ae1_47ae_147b; pieces = 1; words = 1; found = false })) (one (of_bits binary64 0x3fdf_5c28_f5c2_8f5c)) (7 ∷ 8 ∷ [])
+    ≡ output (Ok (record { floor = of_bits binary64 0x3f74_7ae1_47ae_147b; pieces = 1; words = 1; found = false })) (one (of_bits binary64 0x3fdf_5c28_f5c2_8f5c)) (7 ∷ 8 ∷ [])
     (half ∷ half ∷ []) (0 ∷ 8 ∷ []) (160 ∷ 8 ∷ [])
 unfolding run_on snapped settled as_one duration_of words_in_places loud_row quiet_row pieces walked piece_turn collapse_loops pass loop_turn is_loop same equal
     copies_end hand_back_tails tail_turn snap_onsets onset_turn prev_end onset_of onset_frame word.snap_ends word.end_turn word.is_pair word.end_of word.trimmed
@@ -98,13 +98,13 @@ unfolding full_run chain in_order run_applies of_words also when of_samples of_s
 by-levels = refl
 
 accepts : full_run (lent (one half) no-spans 1)
-    ≡ output (Accepted (record { floor = of_bits binary64 0x3f74_7ae1_47ae_147b; pieces = 1; words = 1; found = false })) (one (of_bits binary64 0x3fdf_5c28_f5c2_8f5c)) (7 ∷ 8 ∷ [])
+    ≡ output (Ok (record { floor = of_bits binary64 0x3f74_7ae1_47ae_147b; pieces = 1; words = 1; found = false })) (one (of_bits binary64 0x3fdf_5c28_f5c2_8f5c)) (7 ∷ 8 ∷ [])
     (half ∷ half ∷ []) (0 ∷ 8 ∷ []) (160 ∷ 8 ∷ [])
 accepts = by-levels ∙ ap (λ (ls : List Float). left ls (length tone)) tone-levels ∙ ap (λ (n : ℕ). left (half ∷ []) n) tone-long ∙ left-computed
 
 -- ---- Refused, and all is as it was.
 abbrev refused : Refusal → Input → Output
-refused why i = output (Refused why) i.words i.phrases i.levels i.piece_starts i.piece_ends
+refused why i = output (Err why) i.words i.phrases i.levels i.piece_starts i.piece_ends
 
 -- two ends for one word
 refuses-3 : let i = lent (words (zero-s ∷ []) (half ∷ half ∷ []) (4 ∷ []) (4 ∷ []) (1 ∷ [])) no-spans 1 in full_run i ≡ refused Lengths i

@@ -1,9 +1,8 @@
 -- Document 01, "Full run". Assumes nothing.
-use Rattle.std.specs.Prelude.{ℕ, ◌≤◌, min, ◌≡◌, List, ◌++◌, map, length, drop, Float}
+use Rattle.base.specs.declared.Refusal.{Refusal}
+use Rattle.std.specs.Prelude.{ℕ, ◌≤◌, min, ◌≡◌, List, ◌++◌, map, length, drop, Float, Ok, Err, Result}
 use Rattle.base.specs.Words.{Words, Spans, count, words_in_places}
-use Rattle.base.specs.Refusals.{number, Says, accepts, refuses}
-use Rattle.base.specs.declared.Rule.{Rule}
-use Rattle.base.specs.declared.Rule.TheVariants.{Fine, Breaks}
+use Rattle.base.specs.Refusals.{Rule}
 use Rattle.limits.specs.declared.Applies.{Applies}
 use Rattle.limits.specs.Order.{also, chain}
 use Rattle.word_calls.specs.Within.{WordsWithin, SpansWithin}
@@ -12,8 +11,6 @@ use Rattle.envelope.specs.Envelope.{frames, levels, floor, loud_row, quiet_row}
 use Rattle.pieces.specs.Pieces.{need, over}
 use Rattle.run_stages.specs.Stages.{Run, run_on}
 use Rattle.full_run.specs.declared.Report.{Report}
-use Rattle.full_run.specs.declared.Answer.{Answer}
-use Rattle.full_run.specs.declared.Answer.TheVariants.{Accepted, Refused}
 
 -- ---- What a call is given: the recording, words and spans, what the lent places hold, and how many words find place in the work space.
 pub record Input : Type 0 where
@@ -56,21 +53,16 @@ pub record RunWithin (i : Input) : Type 0 where
   pub phrase-places : count i.words ≤ length i.phrases
   pub work-places : count i.words ≤ i.work
 
--- ---- "Given back: the floor, the piece count, the final word count and `found`", which are a report; "A refusal returns its number only".
-abbrev pub says : Answer → Says Report
-says (Accepted r) = accepts r
-says (Refused why) = refuses (number why)
-
 -- ---- What a call gives back, and what the lent places hold afterwards.
 pub record Output : Type 0 where
-  pub answer : Answer
+  pub answer : Result Report Refusal
   pub words : Words
   pub phrases : List ℕ
   pub levels : List Float
   pub piece_starts : List ℕ
   pub piece_ends : List ℕ
 
-abbrev pub output : Answer → Words → List ℕ → List Float → List ℕ → List ℕ → Output
+abbrev pub output : Result Report Refusal → Words → List ℕ → List Float → List ℕ → List ℕ → Output
 output a ws phrases ls s e = record { answer = a; words = ws; phrases = phrases; levels = ls; piece_starts = s; piece_ends = e }
 
 -- ---- "Given back: the floor, the piece count, the final word count and `found`."
@@ -81,17 +73,17 @@ report_of f run = record { floor = f; pieces = length run.pieces; words = count 
 abbrev pub accepted : Input → Run → Output
 accepted i run =
     let ls = levels i.samples in
-    output (Accepted (report_of (floor ls) run)) (words_in_places (count i.words) run.words) run.phrases
+    output (Ok (report_of (floor ls) run)) (words_in_places (count i.words) run.words) run.phrases
     (ls ++ drop (length ls) i.levels) (over (map (λ p. p.start) run.pieces) i.piece_starts) (over (map (λ p. p.end) run.pieces) i.piece_ends)
 
 abbrev pub by_rule : Rule → Input → Output
-by_rule Fine i = accepted i (run_of i)
-by_rule (Breaks r) i = output (Refused r) i.words i.phrases i.levels i.piece_starts i.piece_ends
+by_rule (Ok u) i = accepted i (run_of i)
+by_rule (Err r) i = output (Err r) i.words i.phrases i.levels i.piece_starts i.piece_ends
 
 unfoldable pub full_run : Input → Output
 full_run i = by_rule (chain (run_applies i)) i
 
 -- ---- The work space alone is free, and only after acceptance; a refusal leaves it as it was.
-unfoldable pub Unchanged : {A : Type 0} → Answer → List A → List A → Type 0
-Unchanged (Accepted r) before after = Unit
-Unchanged (Refused r) before after = after ≡ before
+unfoldable pub Unchanged : {A : Type 0} → Result Report Refusal → List A → List A → Type 0
+Unchanged (Ok r) before after = Unit
+Unchanged (Err r) before after = after ≡ before

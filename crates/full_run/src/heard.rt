@@ -6,8 +6,8 @@ ghost use Rattle.envelope.specs.Envelope.{floor as floor_of, loud_row, quiet_row
 ghost use Rattle.full_run.specs.Parts.{applies_to, Heard};
 ghost use Rattle.run_stages.specs.Stages.{run_on};
 
-use super::{Answer, Report};
-use base::Rule;
+use super::Report;
+use base::Refusal;
 
 // The full run of `count` samples, from their levels; piece places and work places of one kind are equally many.
 pub fn run_heard(
@@ -27,7 +27,7 @@ pub fn run_heard(
     work_starts: &mut [f64],
     work_ends: &mut [f64],
     work_letters: &mut [u32],
-) -> Answer
+) -> Result<Report, Refusal>
     requires { (length levels.now ≡ count / 160)
         × ((length piece_ends.old ≡ length piece_starts.old)
         × ((length work_ends.old ≡ length work_starts.old)
@@ -46,7 +46,7 @@ pub fn run_heard(
         phrases.new piece_starts.old piece_ends.old
         piece_starts.new piece_ends.new }
 {
-    let rule = super::rule::judge(
+    super::rule::judge(
         count,
         starts,
         ends,
@@ -60,36 +60,31 @@ pub fn run_heard(
         levels.len(),
         piece_starts.len(),
         work_starts.len(),
+    )?;
+    let floor = envelope::floor::floor_of(levels);
+    let out = run_stages::after_levels(
+        levels,
+        floor,
+        count,
+        starts,
+        ends,
+        letters,
+        units,
+        keys,
+        span_starts,
+        span_ends,
+        counts,
+        phrases,
+        piece_starts,
+        piece_ends,
+        work_starts,
+        work_ends,
+        work_letters,
     );
-    match rule {
-        Rule::Breaks(why) => Answer::Refused(why),
-        Rule::Fine => {
-            let floor = envelope::floor::floor_of(levels);
-            let out = run_stages::after_levels(
-                levels,
-                floor,
-                count,
-                starts,
-                ends,
-                letters,
-                units,
-                keys,
-                span_starts,
-                span_ends,
-                counts,
-                phrases,
-                piece_starts,
-                piece_ends,
-                work_starts,
-                work_ends,
-                work_letters,
-            );
-            Answer::Accepted(Report {
-                floor,
-                pieces: out.pieces,
-                words: out.words,
-                found: out.found,
-            })
-        }
-    }
+    Ok(Report {
+        floor,
+        pieces: out.pieces,
+        words: out.words,
+        found: out.found,
+    })
 }

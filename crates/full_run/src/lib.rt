@@ -7,7 +7,7 @@ ghost use Rattle.envelope.specs.Envelope.{frames, levels as levels_of, floor as 
 ghost use Rattle.fit_file.specs.FitFile.{work_places};
 ghost use Rattle.full_run.specs.FullRun.{input, output, full_run, Unchanged};
 
-use base::{Refusal, Rule};
+use base::Refusal;
 
 pub mod heard;
 pub mod rule;
@@ -16,19 +16,12 @@ pub mod rule;
 const HOP: usize = 160;
 
 // What an accepted run gives back: the floor, how many pieces and words there are, and whether a loop was found.
-#[derive(Drop)]
+#[derive(Clone, Copy)]
 pub struct Report {
     pub floor: f64,
     pub pieces: usize,
     pub words: usize,
     pub found: bool,
-}
-
-// What the call answers: the report, or why it refuses.
-#[derive(Drop)]
-pub enum Answer {
-    Accepted(Report),
-    Refused(Refusal),
 }
 
 // The levels of a recording, and the floor under them.
@@ -61,7 +54,7 @@ pub fn full_run(
     work_starts: &mut [f64],
     work_ends: &mut [f64],
     work_letters: &mut [u32],
-) -> Answer
+) -> Result<Report, Refusal>
     ensures { let before = words starts.old ends.old letters.old units.old keys.old in
         let after = words starts.new ends.new letters.new units.new keys.new in
         let all_spans = spans span_starts.now span_ends.now counts.now in
@@ -74,7 +67,7 @@ pub fn full_run(
         × (Unchanged result work_ends.old work_ends.new
         × Unchanged result work_letters.old work_letters.new)) }
 {
-    let rule = rule::judge(
+    rule::judge(
         samples.len(),
         starts,
         ends,
@@ -86,42 +79,36 @@ pub fn full_run(
         counts,
         phrases.len(),
         levels.len(),
-        base::least(piece_starts.len(), piece_ends.len()),
-        base::least(
-            work_starts.len(),
-            base::least(work_ends.len(), work_letters.len()),
-        ),
+        piece_starts.len().min(piece_ends.len()),
+        work_starts
+            .len()
+            .min(work_ends.len().min(work_letters.len())),
+    )?;
+    let floor = hear(samples, levels);
+    let n = samples.len() / HOP;
+    let out = run_stages::after_levels(
+        &levels[0..n],
+        floor,
+        samples.len(),
+        starts,
+        ends,
+        letters,
+        units,
+        keys,
+        span_starts,
+        span_ends,
+        counts,
+        phrases,
+        piece_starts,
+        piece_ends,
+        work_starts,
+        work_ends,
+        work_letters,
     );
-    match rule {
-        Rule::Breaks(why) => Answer::Refused(why),
-        Rule::Fine => {
-            let floor = hear(samples, levels);
-            let n = samples.len() / HOP;
-            let out = run_stages::after_levels(
-                &levels[0..n],
-                floor,
-                samples.len(),
-                starts,
-                ends,
-                letters,
-                units,
-                keys,
-                span_starts,
-                span_ends,
-                counts,
-                phrases,
-                piece_starts,
-                piece_ends,
-                work_starts,
-                work_ends,
-                work_letters,
-            );
-            Answer::Accepted(Report {
-                floor,
-                pieces: out.pieces,
-                words: out.words,
-                found: out.found,
-            })
-        }
-    }
+    Ok(Report {
+        floor,
+        pieces: out.pieces,
+        words: out.words,
+        found: out.found,
+    })
 }

@@ -4,7 +4,7 @@ ghost use Rattle.base.specs.Words.{words, spans};
 ghost use Rattle.limits.specs.Order.{chain};
 ghost use Rattle.full_run.specs.Parts.{applies_to};
 
-use base::Rule;
+use base::Refusal;
 
 // Samples in a frame.
 const HOP: usize = 160;
@@ -24,7 +24,7 @@ pub fn judge(
     levels: usize,
     pieces: usize,
     work: usize,
-) -> Rule
+) -> Result<(), Refusal>
     ensures { let before = words starts.now ends.now letters.now units.now keys.now in
         let all_spans = spans span_starts.now span_ends.now counts.now in
         result ≡ chain (applies_to samples before all_spans phrases levels pieces work) }

@@ -1,5 +1,6 @@
 -- Two fits by phrase that meet the theorem's conditions, computed: the recording of `Example`, and the same times 4, reversed. Phrase 0 is given alike, and its
 -- word moves to the same times in both; the word and the span of phrase 1 differ, and its word comes out different. Assumes nothing.
+use Rattle.std.specs.Prelude.{Ok}
 use Prim.Native.Nat.{ℕ, zero, suc, ◌<◌}
 use mathlib.Core.Bool.{true, false}
 use mathlib.Core.List.{List, [], ◌∷◌}
@@ -9,7 +10,7 @@ use lib.IntN.{pos, negsuc}
 use lib.ListN.{length, get_or}
 use lib.Count.{count_trailing_zeros}
 use lib.Ieee.{Float, fin, binary64, is_nan, round, size, span, climb, units, odd, of_bits, of_fields, of_int, add, sub, neg, sum, mul, div, lt, le, eq}
-use Rattle.base.specs.Refusals.{first}
+use Rattle.base.specs.Refusals.{first, says}
 use Rattle.base.specs.Words.{Words, words, Spans, spans, part_edges, on_part}
 use Rattle.base.specs.Loop.{each, fold, run, run_back, up, down}
 use Rattle.js.specs.Js.{under, js_min, js_max}
@@ -17,8 +18,6 @@ use Rattle.frames.specs.Frames.{floor_i64, frame_at, frame_from_zero, frame_seco
 use Rattle.envelope.specs.Envelope.{levels, peak, floor, loud_row}
 use Rattle.limits.specs.Limits.{any, time_of}
 use Rattle.limits.specs.Order.{when, also, in_order, chain}
-use Rattle.limits.specs.Order.{says}
-use Rattle.limits.specs.declared.Answer.TheVariants.{Accepted}
 use Rattle.word_calls.specs.Calls.{uneven, of_words, of_samples, of_levels, of_list, uneven_spans, many_spans, of_spans, of_places, phrases_rule, Output, output}
 use Rattle.share.specs.Share as shares
 use Rattle.ends.specs.Ends.{next_start, or_duration, last_loud, sound_end}
@@ -63,20 +62,20 @@ numbers = 0 ∷ 1 ∷ []
 abbrev call : Words → Spans → List Float → ℕ → ℕ → Output
 call ws sp ls samples places = fit_file_call ws numbers sp ls (floor ls) samples places
 
-first-computed : call (pair second zero-s quarter) (two-spans half-s) (half ∷ (plus_zero ∷ [])) 320 2 ≡ output Accepted (pair fitted zero-s fitted)
+first-computed : call (pair second zero-s quarter) (two-spans half-s) (half ∷ (plus_zero ∷ [])) 320 2 ≡ output (Ok tt) (pair fitted zero-s fitted)
 unfolding fit_file_call phrases_rule chain in_order of_words also when of_levels of_samples of_list of_spans of_places uneven uneven_spans many_spans first any time_of loud_row fit_file fit_phrase duration_of members_of member_turn picked picked_edges put_edges put_back fit_group keep_inside inside_turn inside_span take_trailing take_run last_run frame_run frames_of ends_between run_back fit_to_sound put_in_order order_turn step_start end_in_order move_to_rise rise_turn_of rise_of clip even.even_out even.even_turn even.crushed even.swollen even.first_crushed even.with_swollen even.last_crushed even.grown even.ceiling_of even.borrows even.borrowed even.end_of even.stretch_of even.even_run even.sum shares.share shares.sum part_edges on_part settle_ends end_turn end_of ended_by cut_back lasts_to sound_end_in next_start or_duration sound_end last_loud each run up down frame_from_zero frame_at floor_i64 frame_seconds js_min js_max under is_nan fold peak floor add sub neg sum mul div lt le eq of_int round size span climb units odd of_bits of_fields count_trailing_zeros
 first-computed = refl
 
-second-computed : call (pair second eighth quarter) (two-spans quarter) (fin false 1 (pos 1) ∷ (plus_zero ∷ [])) 320 9 ≡ output Accepted (pair fitted eighth quarter)
+second-computed : call (pair second eighth quarter) (two-spans quarter) (fin false 1 (pos 1) ∷ (plus_zero ∷ [])) 320 9 ≡ output (Ok tt) (pair fitted eighth quarter)
 unfolding fit_file_call phrases_rule chain in_order of_words also when of_levels of_samples of_list of_spans of_places uneven uneven_spans many_spans first any time_of loud_row fit_file fit_phrase duration_of members_of member_turn picked picked_edges put_edges put_back fit_group keep_inside inside_turn inside_span take_trailing take_run last_run frame_run frames_of ends_between run_back fit_to_sound put_in_order order_turn step_start end_in_order move_to_rise rise_turn_of rise_of clip even.even_out even.even_turn even.crushed even.swollen even.first_crushed even.with_swollen even.last_crushed even.grown even.ceiling_of even.borrows even.borrowed even.end_of even.stretch_of even.even_run even.sum shares.share shares.sum part_edges on_part settle_ends end_turn end_of ended_by cut_back lasts_to sound_end_in next_start or_duration sound_end last_loud each run up down frame_from_zero frame_at floor_i64 frame_seconds js_min js_max under is_nan fold peak floor add sub neg sum mul div lt le eq of_int round size span climb units odd of_bits of_fields count_trailing_zeros
 second-computed = refl
 
-first-fit : call (pair second zero-s quarter) (two-spans half-s) (levels recording) (length recording) 2 ≡ output Accepted (pair fitted zero-s fitted)
+first-fit : call (pair second zero-s quarter) (two-spans half-s) (levels recording) (length recording) 2 ≡ output (Ok tt) (pair fitted zero-s fitted)
 first-fit =
     ap (λ (ls : List Float). call (pair second zero-s quarter) (two-spans half-s) ls (length recording) 2) recording-levels
     ∙ ap (λ (n : ℕ). call (pair second zero-s quarter) (two-spans half-s) (half ∷ (plus_zero ∷ [])) n 2) recording-long ∙ first-computed
 
-second-fit : call (pair second eighth quarter) (two-spans quarter) (levels multiplied) (length multiplied) 9 ≡ output Accepted (pair fitted eighth quarter)
+second-fit : call (pair second eighth quarter) (two-spans quarter) (levels multiplied) (length multiplied) 9 ≡ output (Ok tt) (pair fitted eighth quarter)
 second-fit =
     ap (λ (ls : List Float). call (pair second eighth quarter) (two-spans quarter) ls (length multiplied) 9) multiplied-levels
     ∙ ap (λ (n : ℕ). call (pair second eighth quarter) (two-spans quarter) (fin false 1 (pos 1) ∷ (plus_zero ∷ [])) n 9) multiplied-long ∙ second-computed

@@ -1,5 +1,6 @@
 -- Two full runs that meet the theorem's conditions, computed: the recording of `Example`, and the same times 4, reversed. Three words of one key are a loop, of which
 -- the first is left; it is placed in its span, and ends at 0.14 s in both runs and not at 1 s. There is one piece. The other lent places differ. Assumes nothing.
+use Rattle.std.specs.Prelude.{Ok}
 use Prim.Native.Nat.{ℕ}
 use mathlib.Core.Bool.{true, false}
 use mathlib.Core.List.{List, [], ◌∷◌, ◌++◌, map}
@@ -8,7 +9,7 @@ use lib.IntN.{pos, negsuc}
 use lib.ListN.{length, get_or, drop}
 use lib.Count.{count_trailing_zeros}
 use lib.Ieee.{Float, nan, fin, binary64, is_nan, round, size, span, climb, units, odd, of_bits, of_fields, of_int, add, sub, neg, sum, mul, div, lt, le, eq}
-use Rattle.base.specs.Refusals.{first}
+use Rattle.base.specs.Refusals.{first, says}
 use Rattle.base.specs.Words.{Words, words, Spans, spans, part_edges, on_part, words_in_places}
 use Rattle.base.specs.Loop.{each, fold, run, run_back, up, down}
 use Rattle.js.specs.Js.{under, js_min, js_max}
@@ -32,9 +33,8 @@ use Rattle.last_run.specs.LastRun.{ends_between, frames_of, frame_run, last_run}
 use Rattle.fit_to_sound.specs.FitToSound as starts
 use Rattle.fit_to_sound.specs.FitToSound.{fit_to_sound}
 use Rattle.run_stages.specs.Stages.{snapped, by_phrase, settled, Run, run_on}
-use Rattle.full_run.specs.FullRun.{Input, run_of, run_applies, Output, output, report_of, full_run, says}
+use Rattle.full_run.specs.FullRun.{Input, run_of, run_applies, Output, output, report_of, full_run}
 use Rattle.full_run.specs.declared.Report.{Report}
-use Rattle.full_run.specs.declared.Answer.TheVariants.{Accepted}
 use Rattle.invariance.specs.SameRun.{SameRun}
 use Rattle.invariance.proofs.Example.{half, plus_zero, recording, multiplied, recording-long, multiplied-long, recording-levels, multiplied-levels, recorded, reached}
 use Rattle.invariance.proofs.Demand3.{full-run}
@@ -86,7 +86,7 @@ second-given = given multiplied (half-s ∷ half-s ∷ half-s ∷ []) (5 ∷ 6 �
 abbrev left : List Float → ℕ → List Float → List ℕ → List ℕ → Output
 left ls samples places s e =
     let r : Run = run_on (loud_row (floor ls) ls) (quiet_row (floor ls) ls) samples one_span numbers three in
-    output (Accepted (report_of (floor ls) r)) (words_in_places 3 r.words) r.phrases (ls ++ drop (length ls) places) (over (map (λ p. p.start) r.pieces) s) (over (map (λ p. p.end) r.pieces) e)
+    output (Ok (report_of (floor ls) r)) (words_in_places 3 r.words) r.phrases (ls ++ drop (length ls) places) (over (map (λ p. p.start) r.pieces) s) (over (map (λ p. p.end) r.pieces) e)
 
 abbrev report : Float → Report
 report f = record { floor = f; pieces = 1; words = 1; found = true }
@@ -98,7 +98,7 @@ first-report = report (of_bits binary64 0x3f74_7ae1_47ae_147b)
 abbrev second-report : Report
 second-report = report (of_bits binary64 0x3f94_7ae1_47ae_147b)
 
-first-computed : left (half ∷ (plus_zero ∷ [])) 320 (nan ∷ nan ∷ []) (7 ∷ []) (7 ∷ []) ≡ output (Accepted first-report) one_word (0 ∷ 8 ∷ 9 ∷ []) (half ∷ plus_zero ∷ []) (0 ∷ []) (320 ∷ [])
+first-computed : left (half ∷ (plus_zero ∷ [])) 320 (nan ∷ nan ∷ []) (7 ∷ []) (7 ∷ []) ≡ output (Ok first-report) one_word (0 ∷ 8 ∷ 9 ∷ []) (half ∷ plus_zero ∷ []) (0 ∷ []) (320 ∷ [])
 unfolding run_on snapped settled by_phrase duration_of words_in_places loud_row quiet_row pieces walked piece_turn collapse_loops pass loop_turn is_loop same
     equal copies_end hand_back_tails tail_turn snap_onsets onset_turn prev_end onset_of onset_frame word.snap_ends word.end_turn word.is_pair word.end_of
     word.trimmed word.reach word.next_start word.or_duration sound_end last_loud align_phrases place_turn group_of placed_in extend in_their_places place_group
@@ -111,7 +111,7 @@ unfolding run_on snapped settled by_phrase duration_of words_in_places loud_row 
     frame_seconds js_min js_max under is_nan add sub neg sum mul div lt le eq of_int round size span climb units odd of_bits of_fields count_trailing_zeros
 first-computed = refl
 
-second-computed : left (two ∷ (plus_zero ∷ [])) 320 (half-s ∷ half-s ∷ half-s ∷ []) (5 ∷ 6 ∷ []) (5 ∷ 6 ∷ []) ≡ output (Accepted second-report) one_word (0 ∷ 8 ∷ 9 ∷ []) (two ∷ plus_zero ∷ half-s ∷ []) (0 ∷ 6 ∷ []) (320 ∷ 6 ∷ [])
+second-computed : left (two ∷ (plus_zero ∷ [])) 320 (half-s ∷ half-s ∷ half-s ∷ []) (5 ∷ 6 ∷ []) (5 ∷ 6 ∷ []) ≡ output (Ok second-report) one_word (0 ∷ 8 ∷ 9 ∷ []) (two ∷ plus_zero ∷ half-s ∷ []) (0 ∷ 6 ∷ []) (320 ∷ 6 ∷ [])
 unfolding run_on snapped settled by_phrase duration_of words_in_places loud_row quiet_row pieces walked piece_turn collapse_loops pass loop_turn is_loop same
     equal copies_end hand_back_tails tail_turn snap_onsets onset_turn prev_end onset_of onset_frame word.snap_ends word.end_turn word.is_pair word.end_of
     word.trimmed word.reach word.next_start word.or_duration sound_end last_loud align_phrases place_turn group_of placed_in extend in_their_places place_group
@@ -132,13 +132,13 @@ by-levels-2 : full_run second-given ≡ left (levels multiplied) (length multipl
 unfolding full_run chain in_order run_applies of_words also when of_samples of_spans of_places uneven uneven_spans many_spans first any time_of need lt le eq of_bits run_of multiplied
 by-levels-2 = refl
 
-first_run : full_run first-given ≡ output (Accepted first-report) one_word (0 ∷ 8 ∷ 9 ∷ []) (half ∷ plus_zero ∷ []) (0 ∷ []) (320 ∷ [])
+first_run : full_run first-given ≡ output (Ok first-report) one_word (0 ∷ 8 ∷ 9 ∷ []) (half ∷ plus_zero ∷ []) (0 ∷ []) (320 ∷ [])
 first_run =
     by-levels-1
     ∙ ap (λ (ls : List Float). left ls (length recording) (nan ∷ nan ∷ []) (7 ∷ []) (7 ∷ [])) recording-levels
     ∙ ap (λ (n : ℕ). left (half ∷ (plus_zero ∷ [])) n (nan ∷ nan ∷ []) (7 ∷ []) (7 ∷ [])) recording-long ∙ first-computed
 
-second_run : full_run second-given ≡ output (Accepted second-report) one_word (0 ∷ 8 ∷ 9 ∷ []) (two ∷ plus_zero ∷ half-s ∷ []) (0 ∷ 6 ∷ []) (320 ∷ 6 ∷ [])
+second_run : full_run second-given ≡ output (Ok second-report) one_word (0 ∷ 8 ∷ 9 ∷ []) (two ∷ plus_zero ∷ half-s ∷ []) (0 ∷ 6 ∷ []) (320 ∷ 6 ∷ [])
 second_run =
     by-levels-2
     ∙ ap (λ (ls : List Float). left ls (length multiplied) (half-s ∷ half-s ∷ half-s ∷ []) (5 ∷ 6 ∷ []) (5 ∷ 6 ∷ [])) multiplied-levels

@@ -9,11 +9,11 @@ use lib.IntN.{ℤ}
 use lib.ListN.{length, get_or, length-map, get_or-append}
 use lib.Ieee.{Float}
 use Rattle.base.specs.Words.{Words, count, words_in_places}
-use Rattle.base.specs.Refusals.{Says, accepts}
+use Rattle.base.specs.Refusals.{Says, accepts, says}
 use Rattle.envelope.specs.Envelope.{levels, floor}
 use Rattle.pieces.specs.Pieces.{Piece, over}
 use Rattle.run_stages.specs.Stages.{Run}
-use Rattle.full_run.specs.FullRun.{Input, run_of, says, Output, report_of, accepted, full_run}
+use Rattle.full_run.specs.FullRun.{Input, run_of, Output, report_of, accepted, full_run}
 use Rattle.full_run.specs.declared.Report.{Report}
 use Rattle.full_run.proofs.Promises.{accepted-exactly, accepted-leaves, accepted-answer}
 use Rattle.invariance.specs.Scaled.{Recorded, Loudest}

@@ -12,11 +12,9 @@ use lib.IntN.{ℤ}
 use lib.ListN.{length, get_or}
 use lib.Ieee.{Float, nan}
 use Rattle.base.specs.Words.{Words, words, Spans, Edges, edges, times_at}
-use Rattle.base.specs.Refusals.{accepts}
+use Rattle.base.specs.Refusals.{accepts, says, Rule}
 use Rattle.base.specs.declared.Times.{Times}
 use Rattle.base.proofs.Parts.{times-alike}
-use Rattle.limits.specs.declared.Answer.{Answer}
-use Rattle.limits.specs.Order.{says}
 use Rattle.word_calls.specs.Calls.{Output, output}
 use Rattle.envelope.specs.Envelope.{levels, floor, loud_row}
 use Rattle.fit_file.specs.FitFile.{members_of, picked, picked_edges, fit_file, duration_of, fit_file_call}
@@ -134,7 +132,7 @@ module _ (k : ℤ) (reversed : Bool) (xs ys : List Float) (recorded : Recorded k
       (phrase-alike phrases p ws ws' spans spans' (levels xs) (levels ys) (floor (levels xs)) (floor (levels ys)) (length xs) places places' (rows_alike k reversed xs ys recorded loudest).0 alike)
 
   -- ---- and so of two calls of the code, by the equation that its contract ensures
-  pub two-calls : {r r' : Answer} {out out' : Words} → output r out ≡ fit_file_call ws phrases spans (levels xs) (floor (levels xs)) (length xs) places
+  pub two-calls : {r r' : Rule} {out out' : Words} → output r out ≡ fit_file_call ws phrases spans (levels xs) (floor (levels xs)) (length xs) places
       → output r' out' ≡ fit_file_call ws' phrases spans' (levels ys) (floor (levels ys)) (length ys) places' → says r ≡ accepts tt → says r' ≡ accepts tt
       → (i : ℕ) → i < length phrases → get_or phrases i 0 ≡ p → word_at out i ≡ word_at out' i
   two-calls {r} {r'} {out} {out'} c c' a a' i h e =

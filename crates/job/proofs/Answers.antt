@@ -1,5 +1,9 @@
 -- What a run on a job's levels answers can be printed, and its text is what document 01 prints for the file. The full run of the definition is lent other places:
 -- the tests look at how many there are alone, and no line shows what a place held before. Assumes nothing.
+use Rattle.base.specs.declared.Refusal.{Refusal}
+use Rattle.full_run.specs.declared.Report.{Report}
+use Rattle.base.specs.Refusals.{Rule}
+use Rattle.std.specs.Prelude.{Ok, Err, Result}
 use Prim.Native.Nat.{ℕ, zero, suc, ◌+◌, ◌-◌, ◌*◌, ◌/◌, ◌<◌, ◌≤◌}
 use mathlib.Core.Bool.{true, false}
 use mathlib.Core.Path.{◌≡◌, refl, sym, ap, ◌∙◌, subst}
@@ -11,8 +15,6 @@ use lib.ListN.{length, drop, get_or, replicate, length-append, length-replicate,
 use lib.Ieee.{Float, nan}
 use Rattle.base.specs.Loop.{each}
 use Rattle.base.specs.Words.{Words, Spans, count, zero_f, words_in_places, in_places}
-use Rattle.base.specs.declared.Rule.{Rule}
-use Rattle.base.specs.declared.Rule.TheVariants.{Fine, Breaks}
 use Rattle.base.proofs.Loops.{length-table}
 use Rattle.limits.specs.Order.{chain}
 use Rattle.envelope.specs.Envelope.{levels, frames, floor, loud_row, quiet_row}
@@ -24,10 +26,10 @@ use Rattle.run_stages.specs.Stages.{Run, run_on}
 use Rattle.job_text.specs.Text.{lines, piece_lines, word_lines}
 use Rattle.job_text.specs.Parts.{NoNans}
 use Rattle.job_layout.specs.Layout.{Contents, contents, too_many, gapless, file_size, column, words_from, spans_from, samples_from, job_words, job_spans, job_samples}
-use Rattle.job_layout.proofs.Tables.{both, holds-within}
+use Rattle.std.proofs.lemmas.Bool.{and_parts}
+use Rattle.job_layout.proofs.Tables.{holds-within}
 use Rattle.job_layout.proofs.Moved.{words-moved, spans-moved}
 use Rattle.full_run.specs.FullRun.{Input, run_of, run_applies, full_run}
-use Rattle.full_run.specs.declared.Answer.{Answer}
 use Rattle.full_run.proofs.Promises.{run_by}
 use Rattle.full_run.proofs.Made.{applies-are}
 use Rattle.full_run.proofs.Runs.{run-within}
@@ -57,7 +59,7 @@ module _ (ls : List Float) (samples : ℕ) (ws : Words) (spans : Spans) (phrases
   run = run_on (loud_row (floor ls) ls) (quiet_row (floor ls) ls) samples spans phrases ws
 
   -- ---- Every time of an accepted run is finite, and each line has its place.
-  module _ (a : Answer) (after : Words) (numbers starts ends : List ℕ) (room : ℕ)
+  module _ (a : Result Report Refusal) (after : Words) (numbers starts ends : List ℕ) (room : ℕ)
       (heard : Heard rule (floor ls) run a ws after numbers starts₀ ends₀ starts ends) (own : length ls ≡ samples / 160) (two : length ends₀ ≡ length starts₀) (few : count ws ≤ 512)
       (fit : 33088 ≤ room) (long-starts : length after.starts ≡ count ws) (long-ends : length after.ends ≡ count ws) (long-keys : length after.keys ≡ count ws)
       (long-phrases : length numbers ≡ count ws) (five : length starts ≡ 5) (five-ends : length ends ≡ 5) where
@@ -69,8 +71,8 @@ module _ (ls : List Float) (samples : ℕ) (ws : Words) (spans : Spans) (phrases
         no-nans xs small l n m i k = small-number (get_or xs i nan) (small i (omega arith))
 
         go : (r : Rule) → rule ≡ r → Heard r (floor ls) run a ws after numbers starts₀ ends₀ starts ends → Printable a after.starts after.ends numbers starts ends room
-        go (Breaks why) e h = subst (λ (b : Answer). Printable b after.starts after.ends numbers starts ends room) (sym h) (omega arith)
-        go Fine e h =
+        go (Err why) e h = subst (λ (b : Result Report Refusal). Printable b after.starts after.ends numbers starts ends room) (sym h) (omega arith)
+        go (Ok u) e h =
             let w = run-within ls samples ws spans phrases starts₀ ends₀ work two e in
             let n : length (replicate samples zero_f) ≡ samples = length-replicate samples zero_f in
             let small = run_small ls (floor ls) samples ws spans phrases w.words-within w.spans-within (rw n at w.few-samples) own in
@@ -81,7 +83,7 @@ module _ (ls : List Float) (samples : ℕ) (ws : Words) (spans : Spans) (phrases
             let s = subst (λ (xs : List Float). (i : ℕ) → i < length xs → Small (get_or xs i nan)) (sym (ap (λ (v : Words). v.starts) is)) (places-small (count ws) run.words.starts small.starts) in
             let t = subst (λ (xs : List Float). (i : ℕ) → i < length xs → Small (get_or xs i nan)) (sym (ap (λ (v : Words). v.ends) is)) (places-small (count ws) run.words.ends small.ends) in
             let m : count run.words ≤ count ws = omega arith in
-            subst (λ (b : Answer). Printable b after.starts after.ends numbers starts ends room) (sym h.0) (
+            subst (λ (b : Result Report Refusal). Printable b after.starts after.ends numbers starts ends room) (sym h.0) (
               p,
               (q, (omega arith, (omega arith, (omega arith, (omega arith, (no-nans after.starts s long-starts (count run.words) m, no-nans after.ends t long-ends (count run.words) m)))))),
             )
@@ -125,7 +127,7 @@ module _ (xs : List Float) (ws : Words) (sp : Spans) (starts₀ ends₀ : List �
       (rw (length-replicate (frames xs) zero_f, length-replicate {A = ℕ} 5 0) at (applies-are xs ws sp numbers₀ (replicate (frames xs) zero_f) (replicate 5 0) (replicate 5 0) (count ws)))
       )
 
-  text_same : (a : Answer) (after : Words) (numbers starts ends : List ℕ)
+  text_same : (a : Result Report Refusal) (after : Words) (numbers starts ends : List ℕ)
       → Heard (rule (levels xs) (length xs) ws sp numbers₀ starts₀ ends₀ (count ws)) (floor (levels xs)) (run (levels xs) (length xs) ws sp numbers₀ starts₀ ends₀ (count ws)) a ws after numbers starts₀ ends₀ starts ends
       → answer_text lines-for a after.starts after.ends numbers starts ends ≡ output_text lines-for (full_run i)
   unfolding Heard answer_text output_text run_of starts_over ends_over
@@ -134,8 +136,8 @@ module _ (xs : List Float) (ws : Words) (sp : Spans) (starts₀ ends₀ : List �
       go : (r : Rule) → rule (levels xs) (length xs) ws sp numbers₀ starts₀ ends₀ (count ws) ≡ r
           → Heard r (floor (levels xs)) (run (levels xs) (length xs) ws sp numbers₀ starts₀ ends₀ (count ws)) a ws after numbers starts₀ ends₀ starts ends
           → answer_text lines-for a after.starts after.ends numbers starts ends ≡ output_text lines-for (full_run i)
-      go (Breaks why) e h = rw (run_by i (sym rule-same ∙ e), h)
-      go Fine e h =
+      go (Err why) e h = rw (run_by i (sym rule-same ∙ e), h)
+      go (Ok u) e h =
           rw (h.0, h.1.0, h.1.1.0, h.1.1.1.0, h.1.1.1.1)
           (ap (λ (t : List ℕ). t ++ word_lines lines-for final.starts final.ends own.phrases (count own.words)) (pieces-alike own.pieces starts₀ (replicate 5 0) ends₀ (replicate 5 0)))
           ∙ sym (ap (output_text lines-for) (run_by i (sym rule-same ∙ e)))
@@ -157,8 +159,8 @@ module _ (file bodies : List ℕ) (ls : List Float) (w n m : ℕ) (h : Holding f
   offsets : (c.words_at ≡ 24) × ((c.spans_at ≡ 24 + 28 * c.words) × (c.samples_at ≡ 24 + 28 * c.words + 20 * c.spans))
   unfolding gapless
   offsets =
-      let a = both (eqb c.words_at 24) _ says.1.0 in
-      let b = both (eqb c.spans_at (24 + 28 * c.words)) _ a.1 in
+      let a = and_parts (eqb c.words_at 24) _ says.1.0 in
+      let b = and_parts (eqb c.spans_at (24 + 28 * c.words)) _ a.1 in
       (eqb-true c.words_at 24 a.0, (eqb-true _ _ b.0, eqb-true _ _ b.1))
 
   words_are : words_from bodies 0 w ≡ job_words file
@@ -179,7 +181,7 @@ module _ (file bodies : List ℕ) (ls : List Float) (w n m : ℕ) (h : Holding f
       rw (le-ltb (length file) 24 (omega arith), says.0, says.1.0, eq-eqb (length file) (file_size c) l, ← s)
 
   -- ---- What is written for a run on what the file holds is what document 01 prints for it.
-  pub text-is : (ws : Words) (sp : Spans) (ph starts₀ ends₀ : List ℕ) (work q k v : ℕ) (a : Answer) (after : Words) (numbers starts ends : List ℕ) {text : List ℕ}
+  pub text-is : (ws : Words) (sp : Spans) (ph starts₀ ends₀ : List ℕ) (work q k v : ℕ) (a : Result Report Refusal) (after : Words) (numbers starts ends : List ℕ) {text : List ℕ}
       → ws ≡ words_from bodies 0 w → sp ≡ spans_from bodies (28 * v) n → v ≡ w → ph ≡ replicate q 0 → q ≡ count ws → work ≡ count ws → k ≡ n → length starts₀ ≡ 5
       → Heard (rule ls m ws sp ph starts₀ ends₀ work) (floor ls) (run ls m ws sp ph starts₀ ends₀ work) a ws after numbers starts₀ ends₀ starts ends
       → text ≡ answer_text k a after.starts after.ends numbers starts ends → text ≡ printed file

@@ -2,7 +2,7 @@
 use Prim.Native.Nat.{ℕ, ◌+◌, ◌-◌, ◌*◌, ◌/◌, ◌<◌, ◌≤◌}
 use mathlib.Core.Bool.{Bool, true, false, cond, ◌&&◌}
 use mathlib.Core.List.{List, ◌++◌, append_assoc}
-use mathlib.Core.Path.{◌≡◌, refl, sym, ap, ◌∙◌, subst}
+use mathlib.Core.Path.{◌≡◌, sym, ap, ◌∙◌, subst}
 use native.Mathlib.Omega.{arith}
 use borrow.Author.Tests.{le-ltb, eqb-true, ne_eqb}
 use lib.Dec.{eqb}
@@ -19,9 +19,9 @@ use Rattle.job_text.specs.Parts.{Wrote}
 use Rattle.job_layout.specs.Layout.{whole, u32_at, f32_at, column, contents, too_many, gapless, file_size, samples_from}
 use Rattle.job_layout.specs.Parts.{plan_of}
 use Rattle.job_layout.specs.declared.Numbers.{Numbers}
-use Rattle.job_layout.specs.declared.Plan.{Plan}
-use Rattle.job_layout.specs.declared.Plan.TheVariants.{Holds, Breaks}
-use Rattle.job_layout.proofs.Tables.{both, few, holds-within}
+use Rattle.std.specs.Prelude.{Result, Ok, Err}
+use Rattle.std.proofs.lemmas.Bool.{and_parts}
+use Rattle.job_layout.proofs.Tables.{holds-within}
 use Rattle.job_layout.proofs.Tabled.{table-alike}
 use Rattle.job.specs.Printed.{job_run, output_text, printed}
 use Rattle.job.specs.Came.{Came, body_size}
@@ -44,22 +44,22 @@ module _ (t : List ℕ) (long : length t ≡ 24) (rest : List ℕ) where
       rw (number_at 0 (omega arith), number_at 4 (omega arith), number_at 8 (omega arith), number_at 12 (omega arith), number_at 16 (omega arith), number_at 20 (omega arith))
 
   -- ---- A table that says no, whatever follows.
-  pub table-breaks : {why : Refusal} → plan_of (contents t) ≡ Breaks why → printed (t ++ rest) ≡ refused_line (number why)
+  pub table-breaks : {why : Refusal} → plan_of (contents t) ≡ Err why → printed (t ++ rest) ≡ refused_line (number why)
   unfolding printed plan_of
   table-breaks {why} h =
       let l = length-append t rest in
       rw (contents-front, le-ltb (length (t ++ rest)) 24 (omega arith)) (go (too_many (contents t)) (gapless (contents t)) h)
     where
-      held : Plan
-      held = Holds (record { words = (contents t).words; spans = (contents t).spans; samples = (contents t).samples })
+      held : Result Numbers Refusal
+      held = Ok (record { words = (contents t).words; spans = (contents t).spans; samples = (contents t).samples })
 
-      go : (m g : Bool) → cond m (Breaks Counts) (cond g held (Breaks Layout)) ≡ Breaks why
+      go : (m g : Bool) → cond m (Err Counts) (cond g held (Err Layout)) ≡ Err why
           → cond m (refused_line (number Counts)) (cond (g && eqb (length (t ++ rest)) (file_size (contents t))) (output_text (contents t).spans (job_run (t ++ rest))) (refused_line (number Layout))) ≡ refused_line (number why)
       go true g e = let s : Counts ≡ why = cc in ap (λ (r : Refusal). refused_line (number r)) s
-      go false true e = absurd (let z : ◌≡◌ {A = ℕ} 0 1 = cc in omega arith)
+      go false true e = absurd cc
       go false false e = let s : Layout ≡ why = cc in ap (λ (r : Refusal). refused_line (number r)) s
 
-module _ (t : List ℕ) (w s n : ℕ) (long : length t ≡ 24) (holds : plan_of (contents t) ≡ Holds (record { words = w; spans = s; samples = n })) where
+module _ (t : List ℕ) (w s n : ℕ) (long : length t ≡ 24) (holds : plan_of (contents t) ≡ Ok (record { words = w; spans = s; samples = n })) where
   pub says : (too_many (contents t) ≡ false) × ((gapless (contents t) ≡ true) × ((w ≡ (contents t).words) × ((s ≡ (contents t).spans) × (n ≡ (contents t).samples))))
   says = holds-within (contents t) (record { words = w; spans = s; samples = n }) holds
 
@@ -85,8 +85,8 @@ module _ (t : List ℕ) (w s n : ℕ) (long : length t ≡ 24) (holds : plan_of 
   unfolding gapless
   samples-from =
       let c = contents t in
-      let a = both (eqb c.words_at 24) (eqb c.spans_at (24 + 28 * c.words) && eqb c.samples_at (24 + 28 * c.words + 20 * c.spans)) says.1.0 in
-      let b = both (eqb c.spans_at (24 + 28 * c.words)) (eqb c.samples_at (24 + 28 * c.words + 20 * c.spans)) a.1 in
+      let a = and_parts (eqb c.words_at 24) (eqb c.spans_at (24 + 28 * c.words) && eqb c.samples_at (24 + 28 * c.words + 20 * c.spans)) says.1.0 in
+      let b = and_parts (eqb c.spans_at (24 + 28 * c.words)) (eqb c.samples_at (24 + 28 * c.words + 20 * c.spans)) a.1 in
       eqb-true c.samples_at (24 + 28 * c.words + 20 * c.spans) b.1 ∙ rw (says.1.1.0, says.1.1.1.0)
 
   -- ---- A table that holds, and bodies as long as it says: what the file holds.
@@ -136,10 +136,10 @@ module _ (came : ℕ) (t bodies : List ℕ) (ls : List Float) (file : List ℕ) 
         ∙ take-append-add t (take (body_size (contents t)) bodies ++ (h.samples ++ h.more)) (came - 24)
 
     -- a table that says no
-    pub came-breaks : {why : Refusal} → plan_of (contents t) ≡ Breaks why → printed file ≡ refused_line (number why)
+    pub came-breaks : {why : Refusal} → plan_of (contents t) ≡ Err why → printed file ≡ refused_line (number why)
     came-breaks b = ap printed follows ∙ table-breaks t long rest b
 
-    module _ (w s n : ℕ) (holds : plan_of (contents t) ≡ Holds (record { words = w; spans = s; samples = n })) where
+    module _ (w s n : ℕ) (holds : plan_of (contents t) ≡ Ok (record { words = w; spans = s; samples = n })) where
       -- a table that holds, and another number of bytes
       pub came-other : (came ≡ 24 + (28 * w + 20 * s) + 4 * n → ⊥) → printed file ≡ refused_line (number Layout)
       came-other other =
@@ -191,11 +191,3 @@ module _ (came : ℕ) (t bodies : List ℕ) (ls : List Float) (file : List ℕ) 
 pub refused-text : {n r room : ℕ} {before after : List ℕ} (why : Refusal) → 33088 ≤ room → n ≡ number why → Wrote (refused_line n) 0 before after r × (r ≤ 0 + 64)
     → (take r after ≡ refused_line (number why)) × (r ≤ room)
 refused-text why fit is w = (w.0.here ∙ ap refused_line is, let l = w.1 in omega arith)
-
--- ---- a table that holds: how many there are at the most
-pub table-holds : {plan : Plan} (numbers : Numbers) (t : List ℕ) → plan ≡ plan_of (contents t) → plan ≡ Holds numbers → (numbers.words ≤ 512) × ((numbers.spans ≤ 64) × (numbers.samples ≤ 960159))
-unfolding too_many
-table-holds numbers t e h =
-    let s = holds-within (contents t) numbers (sym e ∙ h) in
-    let l = few (contents t).words (contents t).spans (contents t).samples refl s.0 in
-    (rw s.1.1.0 l.0, (rw s.1.1.1.0 l.1.0, rw s.1.1.1.1 l.1.1))

@@ -11,9 +11,10 @@ use lib.ListN.{length, take, drop, length-append, take-append-drop}
 use lib.Seq.{length-take-le, take_all, take_at, take-append-add}
 use Rattle.base.specs.declared.Refusal.{Refusal}
 use Rattle.base.specs.declared.Refusal.TheVariants.{Counts, Layout}
+use Rattle.job_layout.specs.declared.Numbers.{Numbers}
 use Rattle.job_layout.specs.Layout.{Contents, contents, too_many, gapless, file_size}
 use Rattle.job_layout.specs.Parts.{plan_of}
-use Rattle.job_layout.specs.declared.Plan.TheVariants.{Holds, Breaks}
+use Rattle.std.specs.Prelude.{Result, Ok, Err}
 use Rattle.job.specs.Printed.{printed}
 use Rattle.job.specs.Came.{wanted}
 use Rattle.job.proofs.Files.{contents-front, table-breaks, other_length, size_is}
@@ -31,33 +32,33 @@ pub wanted-holds : (c : Contents) → too_many c ≡ false → gapless c ≡ tru
 unfolding wanted
 wanted-holds c m g = rw (m, g)
 
-pub wanted-breaks : (c : Contents) {why : Refusal} → plan_of c ≡ Breaks why → wanted c ≡ 24
+pub wanted-breaks : (c : Contents) {why : Refusal} → plan_of c ≡ Err why → wanted c ≡ 24
 unfolding plan_of wanted
 wanted-breaks c {why} h = go (too_many c) (gapless c) h
   where
-    go : (m g : Bool) → cond m (Breaks Counts) (cond g (Holds (record { words = c.words; spans = c.spans; samples = c.samples })) (Breaks Layout)) ≡ Breaks why
+    go : (m g : Bool) → cond {A = Result Numbers Refusal} m (Err Counts) (cond g (Ok (record { words = c.words; spans = c.spans; samples = c.samples })) (Err Layout)) ≡ Err why
         → cond m 24 (cond g (file_size c + 1) 24) ≡ 24
     go true g e = refl
-    go false true e = absurd (let z : ◌≡◌ {A = ℕ} 0 1 = cc in omega arith)
+    go false true e = absurd cc
     go false false e = refl
 
 module _ (t : List ℕ) (long : length t ≡ 24) where
-  plan-many : too_many (contents t) ≡ true → plan_of (contents t) ≡ Breaks Counts
+  plan-many : too_many (contents t) ≡ true → plan_of (contents t) ≡ Err Counts
   unfolding plan_of
   plan-many m = rw m
 
-  plan-gaps : too_many (contents t) ≡ false → gapless (contents t) ≡ false → plan_of (contents t) ≡ Breaks Layout
+  plan-gaps : too_many (contents t) ≡ false → gapless (contents t) ≡ false → plan_of (contents t) ≡ Err Layout
   unfolding plan_of
   plan-gaps m g = rw (m, g)
 
   plan-holds : too_many (contents t) ≡ false → gapless (contents t) ≡ true
-      → plan_of (contents t) ≡ Holds (record { words = (contents t).words; spans = (contents t).spans; samples = (contents t).samples })
+      → plan_of (contents t) ≡ Ok (record { words = (contents t).words; spans = (contents t).spans; samples = (contents t).samples })
   unfolding plan_of
   plan-holds m g = rw (m, g)
 
   module _ (rest : List ℕ) where
     -- the table alone decides
-    by-table : {why : Refusal} → plan_of (contents t) ≡ Breaks why → printed (take (wanted (contents t)) (t ++ rest)) ≡ printed (t ++ rest)
+    by-table : {why : Refusal} → plan_of (contents t) ≡ Err why → printed (take (wanted (contents t)) (t ++ rest)) ≡ printed (t ++ rest)
     by-table b =
         rw (wanted-breaks (contents t) b, first) (ap printed (sym (append-nil t)) ∙ table-breaks t long [] b ∙ sym (table-breaks t long rest b))
       where

@@ -1,46 +1,33 @@
 -- What is written for an answer is what is printed for it. Assumes nothing.
-use Prim.Native.Nat.{ℕ, zero, suc, ◌+◌, ◌*◌, ◌/◌, ◌≤◌}
-use mathlib.Core.Path.{◌≡◌, refl, ap, ◌∙◌, subst}
-use mathlib.Core.List.{List, ◌∷◌, ◌++◌}
+use Rattle.std.specs.Prelude.{Ok, Err, Result}
+use Prim.Native.Nat.{ℕ, ◌+◌, ◌*◌, ◌≤◌}
+use mathlib.Core.Path.{◌≡◌, ap, ◌∙◌, subst}
+use mathlib.Core.List.{List, ◌++◌}
 use native.Mathlib.Omega.{arith}
-use lib.ListN.{length, take, drop, replicate}
+use lib.ListN.{length, take}
 use lib.Ieee.{Float}
-use Rattle.base.specs.Loop.{table}
 use Rattle.base.specs.Refusals.{number}
 use Rattle.base.specs.declared.Refusal.{Refusal}
-use Rattle.envelope.specs.Envelope.{levels, frames}
 use Rattle.job_text.specs.Text.{refused_line, piece_lines, word_lines}
 use Rattle.job_text.specs.Parts.{Wrote, NoNans}
 use Rattle.full_run.specs.declared.Report.{Report}
-use Rattle.full_run.specs.declared.Answer.{Answer}
-use Rattle.full_run.specs.declared.Answer.TheVariants.{Accepted, Refused}
 use Rattle.job.specs.Printed.{answer_text}
 use Rattle.job.specs.Parts.{Printable}
 
--- ---- levels of samples that were read
-pub heard-are : (before : List Float) {n : ℕ} {xs s after : List Float} → xs ≡ s → length xs ≡ n → after ≡ levels xs ++ drop (frames xs) before → after ≡ levels s ++ drop (n / 160) before
-heard-are before e l h = h ∙ rw (l, e)
-
--- ---- places that all hold one value
-pub table_same : {A : Type 0} (v : A) (n i : ℕ) → table (λ (k : ℕ). v) n i ≡ replicate n v
-unfolding table
-table_same v zero i = refl
-table_same v (suc n) i = ap (λ (l : List _). v ∷ l) (table_same v n (suc i))
-
 -- ---- an answer
-module _ (a : Answer) (starts ends : List Float) (phrases firsts lasts : List ℕ) (room : ℕ) (ready : Printable a starts ends phrases firsts lasts room) where
-  pub refused-fits : {why : Refusal} → a ≡ Refused why → 64 ≤ room
+module _ (a : Result Report Refusal) (starts ends : List Float) (phrases firsts lasts : List ℕ) (room : ℕ) (ready : Printable a starts ends phrases firsts lasts room) where
+  pub refused-fits : {why : Refusal} → a ≡ Err why → 64 ≤ room
   unfolding Printable
-  refused-fits e = subst (λ (b : Answer). Printable b starts ends phrases firsts lasts room) e ready
+  refused-fits e = subst (λ (b : Result Report Refusal). Printable b starts ends phrases firsts lasts room) e ready
 
-  accepted-fits : (report : Report) → a ≡ Accepted report → Printable (Accepted report) starts ends phrases firsts lasts room
-  accepted-fits report e = subst (λ (b : Answer). Printable b starts ends phrases firsts lasts room) e ready
+  accepted-fits : (report : Report) → a ≡ Ok report → Printable (Ok report) starts ends phrases firsts lasts room
+  accepted-fits report e = subst (λ (b : Result Report Refusal). Printable b starts ends phrases firsts lasts room) e ready
 
-  pub pieces-fit : (report : Report) → a ≡ Accepted report → (report.pieces ≤ length firsts) × ((report.pieces ≤ length lasts) × (0 + 64 * report.pieces ≤ room))
+  pub pieces-fit : (report : Report) → a ≡ Ok report → (report.pieces ≤ length firsts) × ((report.pieces ≤ length lasts) × (0 + 64 * report.pieces ≤ room))
   unfolding Printable
   pieces-fit report e = let f = accepted-fits report e in (f.0, (f.1.0, omega (arith, f.1.1.1.1.1.0)))
 
-  pub words-fit : (report : Report) {next more : ℕ} → a ≡ Accepted report → next ≤ 0 + 64 * report.pieces → more ≡ room
+  pub words-fit : (report : Report) {next more : ℕ} → a ≡ Ok report → next ≤ 0 + 64 * report.pieces → more ≡ room
       → (report.words ≤ length starts) × ((report.words ≤ length ends) × ((report.words ≤ length phrases) × ((next + 64 * report.words ≤ more) × (NoNans report.words starts × NoNans report.words ends))))
   unfolding Printable
   words-fit report e l same =
@@ -48,14 +35,14 @@ module _ (a : Answer) (starts ends : List Float) (phrases firsts lasts : List �
       let g = f.1.1.1.1.1.0 in
       (f.1.1.0, (f.1.1.1.0, (f.1.1.1.1.0, (omega arith, f.1.1.1.1.1.1))))
 
-  pub refused-written : (spans : ℕ) {why : Refusal} {n r : ℕ} {before after : List ℕ} → a ≡ Refused why → n ≡ number why → Wrote (refused_line n) 0 before after r × (r ≤ 0 + 64)
+  pub refused-written : (spans : ℕ) {why : Refusal} {n r : ℕ} {before after : List ℕ} → a ≡ Err why → n ≡ number why → Wrote (refused_line n) 0 before after r × (r ≤ 0 + 64)
       → (take r after ≡ answer_text spans a starts ends phrases firsts lasts) × (r ≤ room)
   unfolding answer_text
   refused-written spans e is w =
       let f = refused-fits e in
       (w.0.here ∙ rw (e, is), let l = w.1 in omega arith)
 
-  pub accepted-written : (spans : ℕ) (report : Report) {m r : ℕ} {before middle after : List ℕ} → a ≡ Accepted report → Wrote (piece_lines firsts lasts report.pieces) 0 before middle m × (m ≤ 0 + 64 * report.pieces)
+  pub accepted-written : (spans : ℕ) (report : Report) {m r : ℕ} {before middle after : List ℕ} → a ≡ Ok report → Wrote (piece_lines firsts lasts report.pieces) 0 before middle m × (m ≤ 0 + 64 * report.pieces)
       → Wrote (word_lines spans starts ends phrases report.words) m middle after r × (r ≤ m + 64 * report.words)
       → (take r after ≡ answer_text spans a starts ends phrases firsts lasts) × (r ≤ room)
   unfolding Printable answer_text

@@ -9,7 +9,7 @@ use native.Mathlib.Omega.{arith}
 use borrow.Author.Tests.{lt-ltb, le-ltb, eq-eqb, ne_eqb, ltb-false}
 use lib.Dec.{eqb, ltb}
 use lib.ListN.{length, length-replicate}
-use Rattle.base.specs.Refusals.{accepts}
+use Rattle.base.specs.Refusals.{accepts, says}
 use Rattle.base.specs.Words.{count, zero_f}
 use Rattle.base.proofs.Loops.{length-table}
 use Rattle.word_calls.specs.Within.{WordsWithin, SpansWithin}
@@ -17,9 +17,9 @@ use Rattle.envelope.specs.Envelope.{frames}
 use Rattle.pieces.specs.Pieces.{need}
 use Rattle.job_text.specs.Text.{refused_line}
 use Rattle.job_layout.specs.Layout.{contents, too_many, gapless, file_size, column, samples_from, job_words, job_spans, job_samples}
-use Rattle.job_layout.proofs.Tables.{neither}
+use Rattle.std.proofs.lemmas.Bool.{or_parts}
 use Rattle.full_run.specs.declared.Report.{Report}
-use Rattle.full_run.specs.FullRun.{RunWithin, says}
+use Rattle.full_run.specs.FullRun.{RunWithin}
 use Rattle.full_run.proofs.Promises.{accepted-answer}
 use Rattle.job.specs.Printed.{job_input, job_run, output_text, printed, LaidOut}
 
@@ -54,8 +54,8 @@ module _ (file : List ℕ) where
   pub samples-few : LaidOut file → length (job_samples file) ≤ 960159
   unfolding too_many samples_from column
   samples-few l =
-      let a = neither (ltb 512 (contents file).words) (ltb 64 (contents file).spans || ltb 960159 (contents file).samples) l.few in
-      let b = neither (ltb 64 (contents file).spans) (ltb 960159 (contents file).samples) a.1 in
+      let a = or_parts (ltb 512 (contents file).words) (ltb 64 (contents file).spans || ltb 960159 (contents file).samples) l.few in
+      let b = or_parts (ltb 64 (contents file).spans) (ltb 960159 (contents file).samples) a.1 in
       rw (length-table _ (contents file).samples 0) (ltb-false 960159 (contents file).samples b.1)
 
   pub five-suffice : (n : ℕ) → n ≤ 6000 → need n ≤ 5

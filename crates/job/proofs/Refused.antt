@@ -1,5 +1,8 @@
 -- A file that is laid out is refused with 4, 1 or 2 alone: its lists are as long as each other, and every place that the full run needs is there. By reading the tests in
 -- their order. Assumes nothing.
+use Rattle.base.specs.declared.Refusal.{Refusal}
+use Rattle.full_run.specs.declared.Report.{Report}
+use Rattle.std.specs.Prelude.{Ok, Err, Result}
 use Prim.Native.Nat.{ℕ, ◌+◌, min}
 use mathlib.Core.Bool.{false}
 use mathlib.Core.List.{List, [], ◌∷◌}
@@ -9,7 +12,7 @@ use native.Mathlib.Omega.{arith}
 use borrow.Author.Tests.{le-ltb, eq-eqb}
 use lib.ListN.{length, length-replicate}
 use lib.Ieee.{Float}
-use Rattle.base.specs.Refusals.{number, refuses, Among, None, Listed}
+use Rattle.base.specs.Refusals.{number, refuses, Among, NoneApplies, Listed, says}
 use Rattle.base.specs.Words.{count, zero_f}
 use Rattle.base.proofs.First.{apart, first_says, judged}
 use Rattle.base.proofs.Loops.{length-table}
@@ -19,18 +22,16 @@ use Rattle.envelope.specs.Envelope.{frames}
 use Rattle.pieces.specs.Pieces.{need}
 use Rattle.job_text.specs.Text.{refused_line}
 use Rattle.job_layout.specs.Layout.{contents, u32_at, f64_at, column, words_from, spans_from, job_words, job_spans, job_samples}
-use Rattle.full_run.specs.FullRun.{Input, run_applies, says}
-use Rattle.full_run.specs.declared.Answer.{Answer}
-use Rattle.full_run.specs.declared.Answer.TheVariants.{Accepted, Refused}
+use Rattle.full_run.specs.FullRun.{Input, run_applies}
 use Rattle.full_run.proofs.Promises.{refused-exactly}
 use Rattle.job.specs.Printed.{job_input, job_run, answer_text, output_text, printed, LaidOut}
 use Rattle.job.proofs.Promises.{laid_out, samples-few, five-suffice}
 
 -- ---- the text of an answer that refuses with n
-refused-text : (n spans : ℕ) (a : Answer) (starts ends : List Float) (phrases firsts lasts : List ℕ) → says a ≡ refuses n → answer_text spans a starts ends phrases firsts lasts ≡ refused_line n
+refused-text : (n spans : ℕ) (a : Result Report Refusal) (starts ends : List Float) (phrases firsts lasts : List ℕ) → says a ≡ refuses n → answer_text spans a starts ends phrases firsts lasts ≡ refused_line n
 unfolding answer_text
-refused-text n spans (Accepted r) starts ends phrases firsts lasts h = apart h
-refused-text n spans (Refused why) starts ends phrases firsts lasts h = ap refused_line (let m : number why ≡ n = cc in m)
+refused-text n spans (Ok r) starts ends phrases firsts lasts h = apart h
+refused-text n spans (Err why) starts ends phrases firsts lasts h = ap refused_line (let m : number why ≡ n = cc in m)
 
 column-long : {A : Type 0} (read : List ℕ → ℕ → A) (file : List ℕ) (at size n : ℕ) → length (column read file at size n) ≡ n
 unfolding column
@@ -91,7 +92,7 @@ module _ (file : List ℕ) where
   unfolding job_run output_text
   refused-laid-out l n h =
       let ts = in_order (run_applies given) in
-      let same : None ts → None ts = λ k. k in (
+      let same : NoneApplies ts → NoneApplies ts = λ k. k in (
         laid_out file l ∙ refused-text n (contents file).spans (job_run file).answer _ _ _ _ _ h,
         (judged {A = ℕ} {numbers = 4 ∷ 1 ∷ 2 ∷ []} {ts = ts} 0 (same, same) (listed l) refl).refused-among n (first_says {A = ℕ} 0 n ts ((refused-exactly given n).1 h)),
       )

@@ -1,5 +1,7 @@
 -- What the program prints for a job file, byte for byte (document 01, "Tally, peak, job file"). Assumes nothing.
-use Rattle.std.specs.Prelude.{ℕ, ◌≤◌, ◌≡◌, true, false, cond, ◌&&◌, List, ◌++◌, eqb, ltb, length, replicate, Float}
+use Rattle.base.specs.declared.Refusal.{Refusal}
+use Rattle.full_run.specs.declared.Report.{Report}
+use Rattle.std.specs.Prelude.{ℕ, ◌≤◌, ◌≡◌, true, false, cond, ◌&&◌, List, ◌++◌, eqb, ltb, length, replicate, Float, Ok, Err, Result}
 use Rattle.base.specs.Refusals.{number}
 use Rattle.base.specs.Words.{Words, Spans, count, zero_f}
 use Rattle.base.specs.declared.Refusal.TheVariants.{Counts, Layout}
@@ -7,8 +9,6 @@ use Rattle.envelope.specs.Envelope.{frames}
 use Rattle.job_text.specs.Text.{refused_line, piece_lines, word_lines}
 use Rattle.job_layout.specs.Layout.{contents, table_size, too_many, gapless, file_size, job_words, job_spans, job_samples}
 use Rattle.full_run.specs.FullRun.{Input, input, Output, full_run}
-use Rattle.full_run.specs.declared.Answer.{Answer}
-use Rattle.full_run.specs.declared.Answer.TheVariants.{Accepted, Refused}
 
 -- ---- Places for the pieces of 960,159 samples, which have 6,000 frames.
 abbrev pub piece_places : ℕ
@@ -23,9 +23,9 @@ unfoldable pub job_run : List ℕ → Output
 job_run file = full_run (job_input (job_samples file) (job_words file) (job_spans file))
 
 -- ---- "It prints `refused` and the number, or the pieces .., then the words": of an answer, where there are so many spans.
-unfoldable pub answer_text : ℕ → Answer → List Float → List Float → List ℕ → List ℕ → List ℕ → List ℕ
-answer_text spans (Refused why) starts ends phrases firsts lasts = refused_line (number why)
-answer_text spans (Accepted report) starts ends phrases firsts lasts =
+unfoldable pub answer_text : ℕ → Result Report Refusal → List Float → List Float → List ℕ → List ℕ → List ℕ → List ℕ
+answer_text spans (Err why) starts ends phrases firsts lasts = refused_line (number why)
+answer_text spans (Ok report) starts ends phrases firsts lasts =
     piece_lines firsts lasts report.pieces ++ word_lines spans starts ends phrases report.words
 
 unfoldable pub output_text : ℕ → Output → List ℕ

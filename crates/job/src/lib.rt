@@ -1,17 +1,18 @@
 // A job, from its bytes to the text that is printed for it (document 01, "Tally, peak, job file").
 #![tactic(auto)]
 
-ghost use Rattle.std.specs.Prelude.{◌≡◌, List, ◌++◌, ℕ, ◌+◌, ◌*◌, ◌/◌, ◌≤◌, length, take, drop, replicate};
+ghost use Rattle.std.specs.Prelude.{◌≡◌, List, ◌++◌, ℕ, ◌+◌, ◌*◌, ◌/◌, ◌≤◌, length, take, drop, IfOk, IfErr, Float};
 ghost use Rattle.envelope.specs.Envelope.{levels as levels_of};
 ghost use Rattle.job_layout.specs.Layout.{contents, samples_from};
-ghost use Rattle.job_layout.specs.Parts.{plan_of};
 ghost use Rattle.job.specs.Printed.{answer_text, printed};
 ghost use Rattle.job.specs.Came.{Came};
-ghost use Rattle.job.specs.Parts.{Printable, Sized, Holding};
+ghost use Rattle.job_text.specs.Text.{refused_line};
+ghost use Rattle.base.specs.Refusals.{number};
+ghost use Rattle.job.specs.Parts.{Printable, Sized, Holding, Whole};
 
 use base::Refusal;
-use full_run::Answer;
-use job_layout::{Numbers, Plan, SAMPLE, SPAN, TABLE, WORD};
+use full_run::Report;
+use job_layout::{Numbers, SAMPLE, SPAN, TABLE, WORD};
 
 // Samples in a frame.
 const HOP: usize = 160;
@@ -28,21 +29,10 @@ pub fn hear(bytes: &[u8], samples: &mut [f32], levels: &mut [f64])
     envelope::level::fill(samples, levels);
 }
 
-// Makes every number zero.
-fn clear(numbers: &mut [u32])
-    ensures { numbers.new ≡ replicate (length numbers.old) 0 }
-{
-    let mut i = 0;
-    while i < numbers.len() {
-        numbers[i] = 0;
-        i += 1;
-    }
-}
-
 // Writes what is printed for an answer; gives back how many bytes it has.
 fn print(
     out: &mut [u8],
-    answer: Answer,
+    answer: Result<Report, Refusal>,
     spans: usize,
     starts: &[f64],
     ends: &[f64],
@@ -57,8 +47,8 @@ fn print(
         × (result ≤ length out.old) }
 {
     match answer {
-        Answer::Refused(why) => job_text::put_refused(out, 0, base::number(why)),
-        Answer::Accepted(report) => {
+        Err(why) => job_text::put_refused(out, 0, u32::from(why)),
+        Ok(report) => {
             let pieces = job_text::put_pieces(out, 0, piece_starts, piece_ends, report.pieces);
             job_text::put_words(out, pieces, spans, starts, ends, phrases, report.words)
         }
@@ -98,7 +88,7 @@ pub fn answer(
 {
     job_layout::read_words(bodies, starts, ends, letters, units, keys);
     job_layout::read_spans(bodies, WORD * starts.len(), span_starts, span_ends, counts);
-    clear(phrases);
+    phrases.fill(0);
     let answer = full_run::heard::run_heard(
         levels,
         count,
@@ -168,8 +158,8 @@ fn settle(bodies: &[u8], levels: &[f64], numbers: Numbers, out: &mut [u8]) -> us
         &mut span_ends[0..s],
         &mut counts[0..s],
         &mut phrases[0..w],
-        &mut piece_starts[0..5],
-        &mut piece_ends[0..5],
+        &mut piece_starts,
+        &mut piece_ends,
         &mut work_starts[0..w],
         &mut work_ends[0..w],
         &mut work_letters[0..w],
@@ -177,32 +167,24 @@ fn settle(bodies: &[u8], levels: &[f64], numbers: Numbers, out: &mut [u8]) -> us
     )
 }
 
-// Judges a job whose table holds by how many bytes came in all: the file must end where its table says (refusal 5).
-fn judge_bodies(
-    came: usize,
-    numbers: Numbers,
-    bodies: &[u8],
-    levels: &[f64],
-    out: &mut [u8],
-) -> usize
-    requires { (15616 ≤ length bodies.now)
-        × ((6000 ≤ length levels.now)
-        × ((33088 ≤ length out.old)
-        × ((numbers.words ≤ 512) × ((numbers.spans ≤ 64) × (numbers.samples ≤ 960159))))) }
-    ensures { ((table file : List ℕ)
-        → length table ≡ 24
-        → 24 ≤ came
-        → plan_of (contents table) ≡ Plan.Holds numbers
-        → Came came table bodies.now levels.now file
-        → take result out.new ≡ printed file)
-        × (result ≤ length out.old) }
+// How many words, spans and samples a job has of which so many bytes came, or why it is refused: the table must be whole, it must hold, and
+// the file must end where it says (refusal 5).
+fn check(came: usize, table: &[u8]) -> Result<Numbers, Refusal>
+    requires { length table.now ≡ 24 }
+    ensures held { IfOk result (λ numbers. Whole came table.now numbers) }
+    ensures refused { IfErr result (λ why. (bodies file : List ℕ) (levels : List Float)
+        → Came came table.now bodies levels file
+        → printed file ≡ refused_line (number why)) }
 {
+    if came < TABLE {
+        return Err(Refusal::Layout);
+    }
+    let numbers = job_layout::read_table(table)?;
     let size = WORD * numbers.words + SPAN * numbers.spans;
     if came != TABLE + size + SAMPLE * numbers.samples {
-        return job_text::put_refused(out, 0, base::number(Refusal::Layout));
+        return Err(Refusal::Layout);
     }
-    let frames = numbers.samples / HOP;
-    settle(&bodies[0..size], &levels[0..frames], numbers, out)
+    Ok(numbers)
 }
 
 // Judges a job by what came of it: how many bytes, the table, the bytes of words and spans, and the levels of the samples. Writes what is
@@ -215,12 +197,12 @@ pub fn judge(came: usize, table: &[u8], bodies: &[u8], levels: &[f64], out: &mut
         → take result out.new ≡ printed file)
         × (result ≤ length out.old) }
 {
-    if came < TABLE {
-        return job_text::put_refused(out, 0, base::number(Refusal::Layout));
-    }
-    let plan = job_layout::read_table(table);
-    match plan {
-        Plan::Breaks(why) => job_text::put_refused(out, 0, base::number(why)),
-        Plan::Holds(numbers) => judge_bodies(came, numbers, bodies, levels, out),
+    match check(came, table) {
+        Err(why) => job_text::put_refused(out, 0, u32::from(why)),
+        Ok(numbers) => {
+            let size = WORD * numbers.words + SPAN * numbers.spans;
+            let frames = numbers.samples / HOP;
+            settle(&bodies[0..size], &levels[0..frames], numbers, out)
+        }
     }
 }

@@ -15,13 +15,11 @@ use Rattle.std.proofs.KnownBytes.{Consumes-nil, Consumes-trans}
 use Rattle.base.specs.Loop.{table}
 use Rattle.base.specs.Words.{part, with_part}
 use Rattle.base.proofs.Loops.{length-table}
-use Rattle.base.proofs.Parts.{part-long}
 use Rattle.envelope.specs.Envelope.{levels}
 use Rattle.envelope.proofs.Places.{length-levels}
 use Rattle.job_layout.specs.Layout.{samples_from, column}
 use Rattle.job_layout.proofs.Moved.{samples-append}
 use Rattle.job.proofs.Streaming.{levels-append}
-use Rattle.job.proofs.Places.{front_long}
 use Rattle.job_io.specs.Answers.{last_from, EndsIn}
 use Rattle.job_io.specs.Parts.{heard_stretch, HeardFrom}
 use Rattle.job_io.proofs.Taking.{taken-all}
@@ -29,18 +27,6 @@ use Rattle.job_io.proofs.Taking.{taken-all}
 samples-long : (bytes : List ℕ) (n : ℕ) → length (samples_from bytes 0 n) ≡ n
 unfolding samples_from column
 samples-long bytes n = length-table _ n 0
-
--- ---- the places of a stretch, from place k on: they suffice wherever k is not past the stretch's own
-pub stretch-fits : (samples places : List Float) {count done : ℕ} (n k : ℕ) → n ≤ count - done → 160 * (done / 160) ≡ done → k ≤ done / 160 → done < count
-    → length places ≡ count / 160 → n ≤ length samples → length (part 0 n samples) / 160 ≤ length (part k (length places) places)
-stretch-fits samples places {count} {done} n k e f below h p s =
-    let l = front_long samples n s in
-    let m = part-long k (length places) places (omega arith) in
-    let g : n / 160 ≤ count / 160 - k = go count done n k e f below in
-    omega arith
-  where
-    go : (count done n k : ℕ) → n ≤ count - done → 160 * (done / 160) ≡ done → k ≤ done / 160 → n / 160 ≤ count / 160 - k
-    go count done n k e f below = omega arith
 
 -- ---- the levels of the first `done` samples in their places, and the last stretch in the buffer; what came is what the reader lost
 pub record Hearing (old mid : Option (List ℕ)) (count done came : ℕ) (buffer : List ℕ) (before now : List Float) : Type 0 where
@@ -136,7 +122,7 @@ module _ (old : Option (List ℕ)) (count : ℕ) (before : List Float) where
 
     -- the next stretch came in part
     pub hearing-part : (got : ℕ) {came' : ℕ} {ended : Bool} (chunk buffer' : List ℕ) (ls : List Float) → length chunk ≡ 4 * n → ended ≡ true → ended ≡ ltb got (4 * n) → came' ≡ came + got
-        → Consumes mid new (take got chunk) → HeardFrom old new count came' ended buffer' ls
+        → Consumes mid new (take got chunk) → HeardFrom old new count came' true buffer' ls
     hearing-part got {came'} {ended} chunk buffer' ls l ends said counts takes =
         let a = h.long in
         let c = h.counted in
@@ -148,9 +134,9 @@ module _ (old : Option (List ℕ)) (count : ℕ) (before : List Float) where
             bytes = h.bytes ++ take got chunk;
             long = length-append h.bytes (take got chunk) ∙ (omega (arith, a, c, t, counts));
             few = omega arith;
-            ended_is = ends ∙ sym (lt-ltb came' (4 * count) fewer);
-            levels-are = λ e. absurd (true≢false (sym ends ∙ e));
-            last-stretch = λ e. absurd (true≢false (sym ends ∙ e));
+            ended_is = sym (lt-ltb came' (4 * count) fewer);
+            levels-are = λ e. absurd (true≢false e);
+            last-stretch = λ e. absurd (true≢false e);
           };
           taken = Consumes-trans old mid new h.bytes (take got chunk) h.taken takes;
         }

@@ -9,7 +9,7 @@ use lib.Dec.{ltb}
 use lib.ListN.{length, take, length-append}
 use lib.Seq.{length-take-le, take_at}
 use lib.Ieee.{Float}
-use Rattle.std.specs.Prelude.{Option}
+use Rattle.std.specs.Prelude.{Option, Result, Ok, Err}
 use Rattle.std.specs.Io.KnownBytes.{Consumes}
 use Rattle.base.specs.Loop.{table}
 use Rattle.base.specs.Words.{with_part}
@@ -18,13 +18,10 @@ use Rattle.envelope.specs.Envelope.{levels}
 use Rattle.job_layout.specs.Layout.{Contents, contents, too_many, gapless, file_size, column, samples_from}
 use Rattle.job_layout.specs.Parts.{plan_of}
 use Rattle.job_layout.specs.declared.Numbers.{Numbers}
-use Rattle.job_layout.specs.declared.Plan.{Plan}
-use Rattle.job_layout.specs.declared.Plan.TheVariants.{Holds, Breaks}
 use Rattle.job_layout.proofs.Tables.{holds-within}
-use Rattle.job.specs.Came.{Came, body_size, wanted}
-use Rattle.job.specs.Printed.{printed}
+use Rattle.job.specs.Came.{body_size, wanted}
 use Rattle.job.proofs.Front.{wanted-table, wanted-holds, wanted-breaks}
-use Rattle.job_io.specs.Answers.{EndsIn, Answers, Taken}
+use Rattle.job_io.specs.Answers.{EndsIn}
 use Rattle.job_io.specs.Parts.{Heard, HeardFrom, Follows, FollowsFrom, ReceivedFrom}
 use Rattle.job_io.proofs.Taking.{taken-all, taken-of-all, taken-front, taken-behind}
 
@@ -41,24 +38,6 @@ more-alike x got {sum} {end} e d = go (ltb got 1) refl
     go false h = h ∙ sym (le-ltb sum end (let l = ltb-false got 1 h in omega (arith, l, e, d)))
 
 module _ {count : ℕ} (old mid : Option (List ℕ)) (bodies : List ℕ) {buffer : List ℕ} {ls : List Float} where
-  -- words and spans end too soon
-  pub follows-short : {came : ℕ} {ended : Bool} → ended ≡ true → ended ≡ ltb came (length bodies) → Consumes old mid (take came bodies) → FollowsFrom old mid count came ended bodies buffer ls
-  follows-short {came} ends said takes =
-      let h = ltb-true came (length bodies) (sym said ∙ ends) in
-      record {
-        follows = record {
-          samples = [];
-          more = [];
-          enough = omega arith;
-          few = omega arith;
-          ended_is = ends ∙ sym (lt-ltb came (length bodies + 4 * count + 1) (omega arith));
-          whole-samples = λ e. absurd (omega (arith, e, h));
-          levels-are = λ e. absurd (omega (arith, e, h));
-          last-stretch = λ e. absurd (omega (arith, e, h));
-        };
-        taken = taken-front old mid came bodies ([] ++ []) (omega arith) takes;
-      }
-
   module _ {came heard : ℕ} {over : Bool} (new : Option (List ℕ)) (all : came ≡ length bodies) (takes : Consumes old mid (take came bodies)) (from : HeardFrom mid new count heard over buffer ls) where
     abbrev h : Heard count heard over buffer ls
     h = from.heard
@@ -67,7 +46,7 @@ module _ {count : ℕ} (old mid : Option (List ℕ)) (bodies : List ℕ) {buffer
     rows = taken-all old mid came bodies all takes
 
     -- the samples end too soon
-    pub follows-part : {sum : ℕ} → over ≡ true → sum ≡ came + heard → FollowsFrom old new count sum over bodies buffer ls
+    pub follows-part : {sum : ℕ} → over ≡ true → sum ≡ came + heard → FollowsFrom old new count sum true bodies buffer ls
     follows-part {sum} ends is =
         let l = h.long in
         let short = ltb-true heard (4 * count) (sym h.ended_is ∙ ends) in
@@ -77,7 +56,7 @@ module _ {count : ℕ} (old mid : Option (List ℕ)) (bodies : List ℕ) {buffer
             more = [];
             enough = omega arith;
             few = omega arith;
-            ended_is = ends ∙ sym (lt-ltb sum (length bodies + 4 * count + 1) (omega arith));
+            ended_is = sym (lt-ltb sum (length bodies + 4 * count + 1) (omega arith));
             whole-samples = λ e. absurd (omega (arith, e, short));
             levels-are = λ e. absurd (omega (arith, e, short));
             last-stretch = λ e. absurd (omega (arith, e, short));
@@ -168,11 +147,11 @@ module _ (old mid : Option (List ℕ)) (t : List ℕ) (long : length t ≡ 24) (
       table-parts (omega arith) (ends ∙ sym (lt-ltb came (wanted (contents t)) (let w = wanted-table (contents t) in omega arith))) takes
 
   -- a table that says no
-  pub received-breaks : {came : ℕ} {ended : Bool} {plan : Plan} {why : Refusal} → plan ≡ plan_of (contents t) → plan ≡ Breaks why → came ≤ 24 → ended ≡ ltb came 24 → Consumes old mid (take came t) → ReceivedFrom old mid came ended t bodies buffer ls
+  pub received-breaks : {came : ℕ} {ended : Bool} {plan : Result Numbers Refusal} {why : Refusal} → plan ≡ plan_of (contents t) → plan ≡ Err why → came ≤ 24 → ended ≡ ltb came 24 → Consumes old mid (take came t) → ReceivedFrom old mid came ended t bodies buffer ls
   received-breaks {came} is breaks h said takes = table-parts h (said ∙ ap (ltb came) (sym (wanted-breaks (contents t) (sym is ∙ breaks)))) takes
 
   -- a table that holds, and what was read behind it
-  module _ (numbers : Numbers) (holds : plan_of (contents t) ≡ Holds numbers) where
+  module _ (numbers : Numbers) (holds : plan_of (contents t) ≡ Ok numbers) where
     says : (too_many (contents t) ≡ false) × ((gapless (contents t) ≡ true) × ((numbers.words ≡ (contents t).words) × ((numbers.spans ≡ (contents t).spans) × (numbers.samples ≡ (contents t).samples))))
     says = holds-within (contents t) numbers holds
 
@@ -229,12 +208,3 @@ module _ (old mid : Option (List ℕ)) (t : List ℕ) (long : length t ≡ 24) (
             };
             taken = taken-behind old mid new sum came t (b ++ (f.samples ++ f.more)) (omega arith) (taken-all old mid first t (omega arith) takes) from.taken;
           }
-
--- ---- and what is printed for it
-pub answers : {old new : Option (List ℕ)} {came r room : ℕ} {ended : Bool} {t bodies buffer text : List ℕ} {ls : List Float} → ReceivedFrom old new came ended t bodies buffer ls
-    → ((file : List ℕ) → Came came t bodies ls file → text ≡ printed file) × (r ≤ room) → Answers came ended t bodies buffer ls text × (r ≤ room)
-answers h (prints, fits) = (record { received = h.received; prints = prints }, fits)
-
--- ---- a file of which this came is what the reader lost
-pub takes-file : {old new : Option (List ℕ)} {came : ℕ} {ended : Bool} {t bodies buffer : List ℕ} {ls : List Float} → ReceivedFrom old new came ended t bodies buffer ls → Taken old new came t bodies ls
-takes-file h = record { file = h.received.file; parts = h.received.parts; taken = h.taken }

@@ -7,7 +7,7 @@ ghost use Rattle.std.specs.Io.KnownBytes.{Consumes};
 ghost use Rattle.job_io.specs.Answers.{Answers, Replies, Taken};
 ghost use Rattle.job_io.specs.Parts.{heard_stretch, HeardFrom, FollowsFrom, ReceivedFrom};
 
-use job_layout::{Numbers, Plan, SAMPLE, SPAN, TABLE, WORD};
+use job_layout::{Numbers, SAMPLE, SPAN, TABLE, WORD};
 use std::io;
 use std::io::{Read, Write};
 
@@ -16,7 +16,7 @@ const HOP: usize = 160;
 // Samples of a stretch: 100 frames.
 const STRETCH: usize = 16000;
 
-// How many bytes came, and whether the reader then gave no more.
+// How many bytes came, and whether the reader then gave no more. A struct: both hold in either case, so an enum would have both twice.
 #[derive(Drop)]
 pub struct Got {
     pub bytes: usize,
@@ -89,7 +89,7 @@ fn hear<R: Read>(
     let mut came = 0;
     let mut done = 0;
     while done < count {
-        let n = base::least(count - done, STRETCH);
+        let n = (count - done).min(STRETCH);
         let size = SAMPLE * n;
         let k = done / HOP;
         let got = hear_stretch(
@@ -102,7 +102,7 @@ fn hear<R: Read>(
         if got.ended {
             return Got {
                 bytes: came,
-                ended: got.ended,
+                ended: true,
             };
         }
         done += n;
@@ -139,7 +139,7 @@ fn read_bodies<R: Read>(
     if heard.ended {
         return Got {
             bytes: came,
-            ended: heard.ended,
+            ended: true,
         };
     }
     let mut more = [0u8; 1];
@@ -169,25 +169,22 @@ fn read_job<R: Read>(
     if head.ended {
         return head;
     }
-    let plan = job_layout::read_table(table);
-    match plan {
-        Plan::Breaks(_) => head,
-        Plan::Holds(numbers) => {
-            let size = WORD * numbers.words + SPAN * numbers.spans;
-            let frames = numbers.samples / HOP;
-            let rest = read_bodies(
-                from,
-                numbers,
-                &mut bodies[0..size],
-                bytes,
-                samples,
-                &mut levels[0..frames],
-            );
-            Got {
-                bytes: head.bytes + rest.bytes,
-                ended: rest.ended,
-            }
-        }
+    let Ok(numbers) = job_layout::read_table(table) else {
+        return head;
+    };
+    let size = WORD * numbers.words + SPAN * numbers.spans;
+    let frames = numbers.samples / HOP;
+    let rest = read_bodies(
+        from,
+        numbers,
+        &mut bodies[0..size],
+        bytes,
+        samples,
+        &mut levels[0..frames],
+    );
+    Got {
+        bytes: head.bytes + rest.bytes,
+        ended: rest.ended,
     }
 }
 

@@ -1,69 +1,39 @@
--- Numbers and floats from bytes: four bytes are a u32, eight are two of them; bits of a NaN stand for a NaN. Assumes nothing.
-use Prim.Native.Nat.{ℕ, zero, suc, ◌+◌, ◌*◌, ◌<◌, ◌≤◌}
-use mathlib.Core.Bool.{Bool, true, false, cond, not, ◌&&◌, true≢false}
-use mathlib.Core.List.{List, [], ◌∷◌, ◌++◌}
-use mathlib.Core.Path.{◌≡◌, refl, sym, ap, ◌∙◌}
+-- Numbers from bytes: the kit's sum of what each byte is worth is `whole`. Assumes nothing.
+use Prim.Native.Nat.{ℕ, zero, suc, ◌+◌, ◌-◌, ◌*◌, ◌^◌, ◌<◌, ◌≤◌}
+use mathlib.Core.List.{List, [], ◌∷◌}
+use mathlib.Core.Path.{◌≡◌, ap, ◌∙◌}
+use Rattle.std.proofs.Common.{mul_assoc, mul_comm}
+use Rattle.std.proofs.Math.Nat.{pow-suc}
 use native.Mathlib.Omega.{arith}
-use borrow.Author.Tests.{eqb-true}
-use lib.Dec.{eqb}
-use lib.ListN.{length, take, drop, get_or}
-use lib.Seq.{drop-cons, drop-drop, take-add}
-use lib.Ieee.{Format, nan, inf, binary64, of_bits, of_fields, nan_bits, ones}
-use Rattle.base.proofs.Bits.{fields-top}
-use Rattle.job_layout.specs.Layout.{whole, u32_at, f64_at}
-use Rattle.job_layout.proofs.Tables.{both}
+use lib.ListN.{length, take, drop, get_or, length-drop}
+use Rattle.std.proofs.lemmas.List.{length-take-le, take_all}
+use Rattle.std.specs.List.{slice_index}
+use Rattle.std.specs.Int.{byte_worth, sum_through}
+use Rattle.job_layout.specs.Layout.{whole}
 
--- ---- four bytes, and eight
-module _ (xs : List ℕ) where
-  cons : (at : ℕ) → at < length xs → drop at xs ≡ get_or xs at 0 ∷ drop (at + 1) xs
-  cons at h = let e : at + 1 ≡ suc at = omega arith in rw e (drop-cons xs at 0 h)
+-- ---- a byte is worth 256 times as much one place further
+worth-next : (k b : ℕ) → byte_worth (suc k) b ≡ 256 * byte_worth k b
+worth-next zero b = omega arith
+worth-next (suc k) b = rw (pow-suc 256 (suc k), ← mul_assoc b (256 ^ suc k) 256) (mul_comm _ 256)
 
-  four : (at : ℕ) → at + 4 ≤ length xs → take 4 (drop at xs) ≡ get_or xs at 0 ∷ get_or xs (at + 1) 0 ∷ get_or xs (at + 2) 0 ∷ get_or xs (at + 3) 0 ∷ []
-  four at h =
-      let a : at + 1 + 1 ≡ at + 2 = omega arith in
-      let b : at + 2 + 1 ≡ at + 3 = omega arith in
-      rw (cons at (omega arith), cons (at + 1) (omega arith), a, cons (at + 2) (omega arith), b, cons (at + 3) (omega arith))
-
-  pub u32-is : (at : ℕ) {a b c d : ℕ} → at + 4 ≤ length xs → a ≡ get_or xs at 0 → b ≡ get_or xs (at + 1) 0 → c ≡ get_or xs (at + 2) 0 → d ≡ get_or xs (at + 3) 0
-      → a + 256 * b + 65536 * c + 16777216 * d ≡ u32_at xs at
-  unfolding u32_at whole
-  u32-is at h p q r s = rw (four at h, ← p, ← q, ← r, ← s) (omega arith)
-
-whole-after : (xs bs : List ℕ) → length xs ≡ 4 → whole (xs ++ bs) ≡ whole xs + 4294967296 * whole bs
+-- ---- what byte k adds
+whole-more : (bs : List ℕ) (k : ℕ) → k < length bs → whole (take (suc k) bs) ≡ whole (take k bs) + byte_worth k (get_or bs k 0)
 unfolding whole
-whole-after (a ∷ b ∷ c ∷ d ∷ []) bs h = omega arith
-whole-after [] bs h = absurd (omega arith)
-whole-after (a ∷ []) bs h = absurd (omega arith)
-whole-after (a ∷ b ∷ []) bs h = absurd (omega arith)
-whole-after (a ∷ b ∷ c ∷ []) bs h = absurd (omega arith)
-whole-after (a ∷ b ∷ c ∷ d ∷ e ∷ xs) bs h = absurd (omega arith)
+whole-more [] k h = absurd (omega arith)
+whole-more (b ∷ bs) zero h = omega arith
+whole-more (b ∷ bs) (suc k) h = rw (whole-more bs k (omega arith), worth-next k (get_or bs k 0)) (omega arith)
 
-pub f64-is : (xs : List ℕ) (at : ℕ) {low high : ℕ} → at + 8 ≤ length xs → low ≡ u32_at xs at → high ≡ u32_at xs (at + 4) → of_bits binary64 (low + 4294967296 * high) ≡ f64_at xs at
-unfolding f64_at u32_at
-f64-is xs at {low} {high} h p q =
-    let e : whole (take 8 (drop at xs)) ≡ low + 4294967296 * high =
-    ap whole (take-add 4 4 (drop at xs))
-    ∙ whole-after (take 4 (drop at xs)) (take 4 (drop 4 (drop at xs))) (ap length (four xs at (omega arith)))
-    ∙ rw (drop-drop 4 at xs, ← p, ← q)
-    in
-    ap (of_bits binary64) (sym e)
+-- ---- a number of k + 1 bytes, the lowest first
+by-worths : (bs : List ℕ) (k : ℕ) → k < length bs → sum_through (λ (i : ℕ). byte_worth i (slice_index bs i)) k ≡ whole (take (suc k) bs)
+unfolding whole
+by-worths bs zero h = omega (arith, whole-more bs zero h)
+by-worths bs (suc k) h = rw (by-worths bs k (omega arith), whole-more bs (suc k) h)
 
--- ---- bits of a NaN
-top_field : (f : Format) (s : Bool) (x t : ℕ) → 0 < ones f → (eqb x (ones f) && not (eqb t 0)) ≡ true → of_fields f s x t ≡ nan
-top_field f s zero t h e = let z = eqb-true 0 (ones f) (both (eqb 0 (ones f)) (not (eqb t 0)) e).0 in absurd (omega arith)
-top_field f s (suc x) t h e = fields-top f s t x (eqb-true (suc x) (ones f) two.0) ∙ go (eqb t 0) two.1
-  where
-    two : (eqb (suc x) (ones f) ≡ true) × (not (eqb t 0) ≡ true)
-    two = both (eqb (suc x) (ones f)) (not (eqb t 0)) e
-
-    go : (b : Bool) → not b ≡ true → cond b (inf s) nan ≡ nan
-    go true k = absurd (true≢false (sym k))
-    go false k = refl
-
-pub nan-of : (f : Format) (bits : ℕ) → 0 < ones f → nan_bits f bits ≡ true → nan ≡ of_bits f bits
-unfolding nan_bits of_bits
-nan-of f bits h e = sym (top_field f _ _ _ h e)
-
--- ---- the same value at the same byte
-pub at_byte : {A : Type 0} (read : List ℕ → ℕ → A) (xs : List ℕ) {a b : ℕ} {r : A} → r ≡ read xs a → a ≡ b → r ≡ read xs b
-at_byte read xs e same = e ∙ ap (read xs) same
+-- ---- the bytes of a number, lent as a part
+pub whole-is : (n : ℕ) (xs bs : List ℕ) (at : ℕ) → at + suc n ≤ length xs → bs ≡ take (at + suc n - at) (drop at xs)
+    → sum_through (λ (i : ℕ). byte_worth i (slice_index bs i)) n ≡ whole (take (suc n) (drop at xs))
+whole-is n xs bs at h e =
+    let m : at + suc n - at ≡ suc n = omega arith in
+    let p : bs ≡ take (suc n) (drop at xs) = rw m at e in
+    let l : length bs ≡ suc n = ap length p ∙ length-take-le (suc n) (drop at xs) (let d = length-drop at xs in omega arith) in
+    by-worths bs n (omega arith) ∙ ap whole (take_all (suc n) bs (omega arith) ∙ p)

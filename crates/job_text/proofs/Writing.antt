@@ -1,23 +1,19 @@
 -- Text written after text, one byte, one line or one list at a time, is the whole. Assumes nothing.
 use Prim.Native.Nat.{ℕ, zero, suc, ◌+◌, ◌-◌, ◌*◌, ◌/◌, ◌%◌, ◌<◌, ◌≤◌}
 use mathlib.Core.List.{List, [], ◌∷◌, ◌++◌, append-nil, append_assoc}
-use mathlib.Core.Path.{◌≡◌, refl, sym, ap, ◌∙◌, subst}
+use mathlib.Core.Path.{◌≡◌, refl, sym, ap, ◌∙◌}
 use native.Mathlib.Omega.{arith}
 use borrow.Author.Tests.{lt-ltb, le-ltb, eq-eqb, ne_eqb}
-use lib.ListN.{length, take, set, get_or, length-append}
-use lib.Seq.{take-suc-set, take-suc, take_all}
+use lib.ListN.{take, get_or, length-append}
 use Rattle.base.specs.Loop.{each}
 use Rattle.base.proofs.Loops.{each_last}
 use lib.Ieee.{Float, nan}
 use Rattle.job_text.specs.Text.{digit, space, newline, dash, piece_text, word_text, refused_text, decimal_in, decimal, hex_in, bits_of, refused_line, piece_line, phrase_text, word_line, lines, piece_lines, word_lines}
 use Rattle.job_text.specs.Parts.{Wrote}
 
--- ---- nothing, a byte, and one text after another
+-- ---- nothing, and one text after another
 pub nothing : (at : ℕ) (out : List ℕ) → Wrote [] at out out at
 nothing at out = record { end = omega arith; here = sym (append-nil (take at out)) }
-
-pub byte : (b at : ℕ) (out : List ℕ) → at < length out → Wrote (b ∷ []) at out (set out at b) (at + 1)
-byte b at out h = record { end = refl; here = let e : at + 1 ≡ suc at = omega arith in rw e (take-suc-set out at b h) }
 
 module _ {a b : List ℕ} {at m r : ℕ} {first second third : List ℕ} where
   pub then : Wrote a at first second m → Wrote b m second third r → Wrote (a ++ b) at first third r
@@ -25,30 +21,6 @@ module _ {a b : List ℕ} {at m r : ℕ} {first second third : List ℕ} where
     end = let l = length-append a b in omega (arith, p.end, q.end, l);
     here = q.here ∙ ap (λ (l : List ℕ). l ++ b) p.here ∙ append_assoc (take at first) a b;
   }
-
--- ---- a text, byte for byte: so many of its bytes stand from place `at` on
-pub record Copied (text before : List ℕ) (at i : ℕ) (out : List ℕ) : Type 0 where
-  pub here : take (at + i) out ≡ take at before ++ take i text
-
-module _ {text before : List ℕ} {at : ℕ} where
-  pub copied_none : Copied text before at 0 before
-  copied_none = record { here = let z : at + 0 ≡ at = omega arith in rw z (sym (append-nil (take at before))) }
-
-  pub copied_next : {i : ℕ} {out : List ℕ} (d : ℕ) → Copied text before at i out → at + i < length out → i < length text
-      → Copied text before at (i + 1) (set out (at + i) (get_or text i d))
-  copied_next {i} {out} d p h l = record {
-    here =
-        let a : at + (i + 1) ≡ suc (at + i) = omega arith in
-        let b : i + 1 ≡ suc i = omega arith in
-        rw (a, b, take-suc text i d l) (
-        take-suc-set out (at + i) (get_or text i d) h
-        ∙ ap (λ (l : List ℕ). l ++ (get_or text i d ∷ [])) p.here
-        ∙ append_assoc (take at before) (take i text) (get_or text i d ∷ [])
-        );
-  }
-
-  pub copied_all : {i : ℕ} {out : List ℕ} → Copied text before at i out → i ≤ length text → length text ≤ i → Wrote text at before out (at + i)
-  copied_all {i} {out} p h l = record { end = omega arith; here = p.here ∙ ap (λ (t : List ℕ). take at before ++ t) (take_all i text l) }
 
 -- ---- a number, digit for digit
 module _ (n most : ℕ) {at : ℕ} {before : List ℕ} where
@@ -110,9 +82,6 @@ module _ (line : ℕ → List ℕ) (before : List ℕ) (at : ℕ) where
       let z : 0 + i ≡ i = omega arith in
       (rw (b, each_last (λ (k : ℕ) (text : List ℕ). text ++ line k) i 0 [], z) (then p.0 q.0), let l = p.1 in let m = q.1 in omega arith)
 
-  lines-done : (i n : ℕ) {out : List ℕ} {next : ℕ} → Listed i out next → i ≤ n → n ≤ i → Listed n out next
-  lines-done i n {out} {next} p h l = let e : i ≡ n = omega arith in subst (λ (k : ℕ). Listed k out next) e p
-
 module _ (starts ends before : List ℕ) (at : ℕ) where
   abbrev pub Pieces : ℕ → List ℕ → ℕ → Type 0
   Pieces i out next = Wrote (piece_lines starts ends i) at before out next × (next ≤ at + 64 * i)
@@ -128,10 +97,6 @@ module _ (starts ends before : List ℕ) (at : ℕ) where
   unfolding piece_lines
   pieces-next i p q = lines_next piece before at i p q
 
-  pub pieces-done : (i n : ℕ) {out : List ℕ} {next : ℕ} → Pieces i out next → i ≤ n → n ≤ i → Pieces n out next
-  unfolding piece_lines
-  pieces-done i n p h l = lines-done piece before at i n p h l
-
 module _ (spans : ℕ) (starts ends : List Float) (phrases before : List ℕ) (at : ℕ) where
   abbrev pub Spoken : ℕ → List ℕ → ℕ → Type 0
   Spoken i out next = Wrote (word_lines spans starts ends phrases i) at before out next × (next ≤ at + 64 * i)
@@ -146,10 +111,6 @@ module _ (spans : ℕ) (starts ends : List Float) (phrases before : List ℕ) (a
   pub words-next : (i : ℕ) {out after : List ℕ} {next r : ℕ} → Spoken i out next → Wrote (word i) next out after r × (r ≤ next + 64) → Spoken (i + 1) after r
   unfolding word_lines
   words-next i p q = lines_next word before at i p q
-
-  pub words-done : (i n : ℕ) {out : List ℕ} {next : ℕ} → Spoken i out next → i ≤ n → n ≤ i → Spoken n out next
-  unfolding word_lines
-  words-done i n p h l = lines-done word before at i n p h l
 
 -- ---- the lines
 module _ {at r : ℕ} {before after : List ℕ} where

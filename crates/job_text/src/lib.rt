@@ -1,48 +1,36 @@
 // The lines that the program prints, written into lent places (document 01, "Tally, peak, job file").
 #![tactic(auto)]
 
-ghost use Rattle.std.specs.Prelude.{◌≡◌, not, [], ◌∷◌, ◌+◌, ◌*◌, ◌<◌, ◌≤◌, T, length};
+ghost use Rattle.std.specs.Prelude.{◌≡◌, not, ◌+◌, ◌*◌, ◌<◌, ◌≤◌, T, length};
 ghost use Rattle.std.specs.Float.Ieee.{is_nan};
 ghost use Rattle.job_text.specs.Text.{digit as digit_of, decimal_in, hex_in, bits_of, refused_line, piece_line, phrase_text, word_line, piece_lines, word_lines};
 ghost use Rattle.job_text.specs.Parts.{Wrote, NoNans};
 
-// The most bytes of a line.
-const LINE: usize = 64;
-
-// Writes a byte; gives back the place after it, as every writer here does.
-fn put(out: &mut [u8], at: usize, byte: u8) -> usize
-    requires { at < length out.old }
-    ensures { Wrote (byte ∷ []) at out.old out.new result }
-{
-    out[at] = byte;
-    at + 1
-}
-
-// Writes some text.
+// Writes some text; gives back the place after it, as every writer here does.
 fn put_text(out: &mut [u8], at: usize, text: &[u8]) -> usize
     requires { at + length text.now ≤ length out.old }
     ensures { Wrote text.now at out.old out.new result }
 {
-    let mut i = 0;
-    while i < text.len() {
-        out[at + i] = text[i];
-        i += 1;
-    }
-    at + i
+    let end = at + text.len();
+    out[at..end].copy_from_slice(text);
+    end
 }
 
 // A digit below 16: `0` to `9`, then `A` to `F`.
+#[tactic(auto, unfolding(crate::specs::Text::digit))]
 fn digit(d: u64) -> u8
     requires { d < 16 }
     ensures { result ≡ digit_of d }
 {
     if d < 10 {
-        return 48 + d as u8;
+        b'0' + d as u8
+    } else {
+        b'A' + (d as u8 - 10)
     }
-    55 + d as u8
 }
 
 // Writes a number in decimal digits, `most` of them at the most.
+// By hand, as the hexadecimal ones: std prints only through `fmt::Write`, whose contract never says that a write succeeds.
 fn put_decimal(out: &mut [u8], at: usize, n: u64, most: usize) -> usize
     requires { at + most ≤ length out.old }
     ensures { Wrote (decimal_in most n) at out.old out.new result × (result ≤ at + most) }
@@ -51,10 +39,10 @@ fn put_decimal(out: &mut [u8], at: usize, n: u64, most: usize) -> usize
         return at;
     }
     if n < 10 {
-        return put(out, at, digit(n));
+        return put_text(out, at, &[digit(n)]);
     }
     let next = put_decimal(out, at, n / 10, most - 1);
-    put(out, next, digit(n % 10))
+    put_text(out, next, &[digit(n % 10)])
 }
 
 // Writes the last `places` hexadecimal digits of a number.
@@ -66,7 +54,7 @@ fn put_hexadecimal(out: &mut [u8], at: usize, n: u64, places: usize) -> usize
         return at;
     }
     let next = put_hexadecimal(out, at, n / 16, places - 1);
-    put(out, next, digit(n % 16))
+    put_text(out, next, &[digit(n % 16)])
 }
 
 // Writes the bits of a time that is no NaN, in 16 hexadecimal digits.
@@ -74,7 +62,7 @@ fn put_bits(out: &mut [u8], at: usize, time: f64) -> usize
     requires { (at + 16 ≤ length out.old) × T (not (is_nan time)) }
     ensures { Wrote (bits_of time) at out.old out.new result × (result ≡ at + 16) }
 {
-    put_hexadecimal(out, at, f64::to_bits(time), 16)
+    put_hexadecimal(out, at, time.to_bits(), 16)
 }
 
 // Writes `refused` and a number.
@@ -83,8 +71,8 @@ pub fn put_refused(out: &mut [u8], at: usize, n: u32) -> usize
     ensures { Wrote (refused_line n) at out.old out.new result × (result ≤ at + 64) }
 {
     let text = put_text(out, at, b"refused ");
-    let number = put_decimal(out, text, n as u64, 20);
-    put(out, number, b'\n')
+    let number = put_decimal(out, text, u64::from(n), 20);
+    put_text(out, number, b"\n")
 }
 
 // Writes the line of a piece: its first sample, and its end.
@@ -94,9 +82,9 @@ fn put_piece(out: &mut [u8], at: usize, first: usize, end: usize) -> usize
 {
     let text = put_text(out, at, b"piece ");
     let number = put_decimal(out, text, first as u64, 20);
-    let between = put(out, number, b' ');
+    let between = put_text(out, number, b" ");
     let second = put_decimal(out, between, end as u64, 20);
-    put(out, second, b'\n')
+    put_text(out, second, b"\n")
 }
 
 // Writes a phrase number, or `-` where there are no spans.
@@ -105,9 +93,9 @@ fn put_phrase(out: &mut [u8], at: usize, spans: usize, phrase: u32) -> usize
     ensures { Wrote (phrase_text spans phrase) at out.old out.new result × (result ≤ at + 20) }
 {
     if spans == 0 {
-        return put(out, at, b'-');
+        return put_text(out, at, b"-");
     }
-    put_decimal(out, at, phrase as u64, 20)
+    put_decimal(out, at, u64::from(phrase), 20)
 }
 
 // Writes the line of a word: the bits of its start and end, and its phrase.
@@ -117,11 +105,11 @@ fn put_word(out: &mut [u8], at: usize, spans: usize, start: f64, end: f64, phras
 {
     let text = put_text(out, at, b"word ");
     let first = put_bits(out, text, start);
-    let between = put(out, first, b' ');
+    let between = put_text(out, first, b" ");
     let second = put_bits(out, between, end);
-    let after = put(out, second, b' ');
+    let after = put_text(out, second, b" ");
     let number = put_phrase(out, after, spans, phrase);
-    put(out, number, b'\n')
+    put_text(out, number, b"\n")
 }
 
 // Writes the lines of the first n pieces.
@@ -130,10 +118,8 @@ pub fn put_pieces(out: &mut [u8], at: usize, starts: &[usize], ends: &[usize], n
     ensures { Wrote (piece_lines starts.now ends.now n) at out.old out.new result × (result ≤ at + 64 * n) }
 {
     let mut next = at;
-    let mut i = 0;
-    while i < n {
+    for i in 0..n {
         next = put_piece(out, next, starts[i], ends[i]);
-        i += 1;
     }
     next
 }
@@ -156,10 +142,8 @@ pub fn put_words(
         × (result ≤ at + 64 * n) }
 {
     let mut next = at;
-    let mut i = 0;
-    while i < n {
+    for i in 0..n {
         next = put_word(out, next, spans, starts[i], ends[i], phrases[i]);
-        i += 1;
     }
     next
 }

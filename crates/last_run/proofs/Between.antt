@@ -1,4 +1,7 @@
 -- The last run between two times is that of the frames from one index to another, and an index may be cut at 2 ^ 40. Assumes nothing.
+use Rattle.std.specs.Prelude.{Option, Some}
+use Rattle.base.specs.declared.Times.{Times}
+use Rattle.base.specs.Words.{times}
 use Prim.Native.Nat.{ℕ, ◌+◌, ◌-◌, ◌≤◌, ◌^◌, min}
 use mathlib.Core.Bool.{Bool, true, false}
 use mathlib.Core.List.{List}
@@ -14,12 +17,9 @@ use Rattle.frames.specs.Frames.{frame_at, frame_from_zero, frame_seconds}
 use Rattle.frames.proofs.Indices.{from_zero-nat}
 use Rattle.envelope.specs.Envelope.{loud_row}
 use Rattle.envelope.proofs.Scan.{length-row}
-use Rattle.last_run.specs.LastRun.{frames_of, frame_run, seconds_of, last_run}
+use Rattle.last_run.specs.LastRun.{frames_of, frame_run, seconds_of, last_run, frames}
 use Rattle.last_run.specs.Exact.{first_frame, end_frame}
 use Rattle.last_run.specs.declared.FrameRun.{FrameRun}
-use Rattle.last_run.specs.declared.FrameRun.TheVariants.{Frames}
-use Rattle.last_run.specs.declared.Run.{Run}
-use Rattle.last_run.specs.declared.Run.TheVariants.{Sound}
 use Rattle.last_run.proofs.Steps.{ends-nat}
 
 from_zero-is : (t : Float) → frame_from_zero t ≡ pos (to_nat (frame_from_zero t))
@@ -48,7 +48,7 @@ frame_run-from row a b hi h = ap frames_of (ends-nat row hi (pos a) ∙ (rw h) �
 
 -- ---- by what the code's parts give
 module _ (floor : Float) (levels : List Float) (short : length levels ≤ 2 ^ 40) (from to : Float) where
-  pub between_is : {lo hi : ℕ} {f : FrameRun} {r : Run} → lo ≡ min (to_nat (frame_at from)) (2 ^ 40) → hi ≡ min (length levels) (min (to_nat (frame_at to)) (2 ^ 40))
+  pub between_is : {lo hi : ℕ} {f : Option FrameRun} {r : Option Times} → lo ≡ min (to_nat (frame_at from)) (2 ^ 40) → hi ≡ min (length levels) (min (to_nat (frame_at to)) (2 ^ 40))
       → f ≡ frame_run (loud_row floor levels) (pos lo) (pos hi) → r ≡ seconds_of f → r ≡ last_run (loud_row floor levels) from to
   between_is {lo} {hi} islo ishi ef er =
       let a = from_zero-nat from in
@@ -60,5 +60,5 @@ module _ (floor : Float) (levels : List Float) (short : length levels ≤ 2 ^ 40
       ∙ sym (last_run-is (loud_row floor levels) from to)
 
 -- ---- a run in seconds
-pub seconds-found : {r : FrameRun} {s e : Float} (first last : ℕ) → r ≡ Frames first last → s ≡ frame_seconds (pos first) → e ≡ frame_seconds (pos (last + 1)) → Sound s e ≡ seconds_of r
+pub seconds-found : {r : Option FrameRun} {s e : Float} (first last : ℕ) → r ≡ Some (frames first last) → s ≡ frame_seconds (pos first) → e ≡ frame_seconds (pos (last + 1)) → Some (times s e) ≡ seconds_of r
 seconds-found first last h p q = rw (h, p, q)

@@ -1,10 +1,12 @@
 -- The exact condition of document 01: no sound is given exactly when no loud frame is in the range, or last minus first frame of the run is under 3; and what
 -- run is given else. The search is followed back frame by frame, with what it has seen; and a range has one last run at the most. Assumes nothing.
+use Rattle.std.specs.Prelude.{Option, Some, None}
+use Rattle.base.specs.declared.Times.{Times}
+use Rattle.base.specs.Words.{times}
 use Prim.Native.Nat.{ℕ, zero, suc, ◌+◌, ◌-◌, ◌<◌, ◌≤◌}
 use mathlib.Core.Bool.{Bool, true, false, true≢false}
 use mathlib.Core.List.{List}
 use mathlib.Core.Logic.{◌↔◌, inl, inr}
-use mathlib.Core.Option as option
 use mathlib.Core.Path.{◌≡◌, refl, sym, ap, ◌∙◌, subst}
 use native.Mathlib.Omega.{arith}
 use borrow.Author.Tests.{ltb-true, ltb-false, le-ltb}
@@ -16,12 +18,9 @@ use Rattle.base.proofs.Loops.{back-next, back-stop, back_done}
 use Rattle.frames.specs.Frames.{frame_seconds}
 use Rattle.envelope.specs.Envelope.{loud}
 use Rattle.envelope.proofs.Scan.{one_less}
-use Rattle.last_run.specs.LastRun.{Ends, back_turn, ends_between, frames_of, frame_run, seconds_of, last_run, times}
+use Rattle.last_run.specs.LastRun.{Ends, back_turn, ends_between, frames_of, frame_run, seconds_of, last_run, frames}
 use Rattle.last_run.specs.Exact.{NoneLoud, RunIs, NoSound, SoundIs, first_frame, end_frame}
 use Rattle.last_run.specs.declared.FrameRun.{FrameRun}
-use Rattle.last_run.specs.declared.FrameRun.TheVariants.{Frames, NoFrames}
-use Rattle.last_run.specs.declared.Run.{Run}
-use Rattle.last_run.specs.declared.Run.TheVariants.{Sound, Nothing}
 use Rattle.last_run.proofs.Steps.{nothing, met, minus-above, ends-nat, frames_of-none, frames_of-under, frames_of-from}
 use Rattle.last_run.proofs.Between.{last_run-is, seconds-found}
 
@@ -190,9 +189,9 @@ module _ (row : List Bool) (lo hi : ℕ) where
 
   -- ---- the three outcomes, of which each rules out the others
   data Outcome : Type 0 where
-    silent : NoneLoud row lo hi → frame_run row (pos lo) (pos hi) ≡ NoFrames → Outcome
-    short : (first last : ℕ) → RunIs row lo hi first last → last - first < 3 → frame_run row (pos lo) (pos hi) ≡ NoFrames → Outcome
-    long : (first last : ℕ) → RunIs row lo hi first last → 3 ≤ last - first → frame_run row (pos lo) (pos hi) ≡ Frames first last → Outcome
+    silent : NoneLoud row lo hi → frame_run row (pos lo) (pos hi) ≡ None → Outcome
+    short : (first last : ℕ) → RunIs row lo hi first last → last - first < 3 → frame_run row (pos lo) (pos hi) ≡ None → Outcome
+    long : (first last : ℕ) → RunIs row lo hi first last → 3 ≤ last - first → frame_run row (pos lo) (pos hi) ≡ Some (frames first last) → Outcome
 
   outcome : Outcome
   unfolding frame_run
@@ -204,75 +203,66 @@ module _ (row : List Bool) (lo hi : ℕ) where
       go true t = let h = ltb-true last (first + 3) t in let o = r.order in short first last r (omega arith) (ap frames_of e ∙ frames_of-under first last h)
       go false t = let h = ltb-false last (first + 3) t in long first last r (omega arith) (ap frames_of e ∙ frames_of-from first last h)
 
-  apart : {A : Type 0} {first last : ℕ} → frame_run row (pos lo) (pos hi) ≡ Frames first last → frame_run row (pos lo) (pos hi) ≡ NoFrames → A
+  apart : {A : Type 0} {first last : ℕ} → frame_run row (pos lo) (pos hi) ≡ Some (frames first last) → frame_run row (pos lo) (pos hi) ≡ None → A
   apart p q = absurd (let z : ◌≡◌ {A = ℕ} 0 1 = cc in omega arith)
 
   -- ---- "no sound is given exactly when no loud frame is in the range or last minus first frame of the run is under 3"
-  pub none-exactly : NoSound row lo hi ↔ (frame_run row (pos lo) (pos hi) ≡ NoFrames)
+  pub none-exactly : NoSound row lo hi ↔ (frame_run row (pos lo) (pos hi) ≡ None)
   none-exactly = (λ h. to h outcome, λ e. from e outcome)
     where
-      to : NoSound row lo hi → Outcome → frame_run row (pos lo) (pos hi) ≡ NoFrames
+      to : NoSound row lo hi → Outcome → frame_run row (pos lo) (pos hi) ≡ None
       to h (silent q e) = e
       to h (short first last r l e) = e
       to (inl q) (long first last r l e) = let o = r.order in let t = r.to in never r.first-loud (q first r.from (omega arith))
       to (inr (a, (b, (s, m)))) (long first last r l e) = let w = one-run r s in absurd (omega (arith, w.0, w.1))
 
-      from : frame_run row (pos lo) (pos hi) ≡ NoFrames → Outcome → NoSound row lo hi
+      from : frame_run row (pos lo) (pos hi) ≡ None → Outcome → NoSound row lo hi
       from e (silent q f) = inl q
       from e (short first last r l f) = inr (first, (last, (r, l)))
       from e (long first last r l f) = apart f e
 
   -- ---- and a run is given exactly when it is the last one, and that is not so
-  pub found-exactly : (first last : ℕ) → (RunIs row lo hi first last × (3 ≤ last - first)) ↔ (frame_run row (pos lo) (pos hi) ≡ Frames first last)
+  pub found-exactly : (first last : ℕ) → (RunIs row lo hi first last × (3 ≤ last - first)) ↔ (frame_run row (pos lo) (pos hi) ≡ Some (frames first last))
   found-exactly first last = (λ h. to h outcome, λ e. from e outcome)
     where
-      to : RunIs row lo hi first last × (3 ≤ last - first) → Outcome → frame_run row (pos lo) (pos hi) ≡ Frames first last
+      to : RunIs row lo hi first last × (3 ≤ last - first) → Outcome → frame_run row (pos lo) (pos hi) ≡ Some (frames first last)
       to (r, h) (silent q e) = let o = r.order in let t = r.to in never r.first-loud (q first r.from (omega arith))
       to (r, h) (short a b s m e) = let w = one-run r s in absurd (omega (arith, w.0, w.1))
       to (r, h) (long a b s m e) = let w = one-run s r in e ∙ rw (w.0, w.1)
 
-      from : frame_run row (pos lo) (pos hi) ≡ Frames first last → Outcome → RunIs row lo hi first last × (3 ≤ last - first)
+      from : frame_run row (pos lo) (pos hi) ≡ Some (frames first last) → Outcome → RunIs row lo hi first last × (3 ≤ last - first)
       from e (silent q f) = apart e f
       from e (short a b s m f) = apart e f
-      from e (long a b s m f) = let x = sym f ∙ e in let p : a ≡ first = cc in let q : b ≡ last = cc in let v : RunIs row lo hi a b × (3 ≤ b - a) = (s, m) in rw (p, q) at v
+      from e (long a b s m f) =
+          let x = sym f ∙ e in
+          let w : frames a b ≡ frames first last = cc in
+          let p : a ≡ first = ap (λ (r : FrameRun). r.first) w in
+          let q : b ≡ last = ap (λ (r : FrameRun). r.last) w in
+          let v : RunIs row lo hi a b × (3 ≤ b - a) = (s, m) in
+          rw (p, q) at v
 
--- a run by its two times
-no-times : (r : Run) → times r ≡ option.none → r ≡ Nothing
-no-times Nothing h = refl
-no-times (Sound s e) h = absurd (let z : ◌≡◌ {A = ℕ} 0 1 = cc in omega arith)
-
-two-times : (r : Run) (start end : Float) → times r ≡ option.some (start, end) → r ≡ Sound start end
-two-times Nothing start end h = absurd (let z : ◌≡◌ {A = ℕ} 0 1 = cc in omega arith)
-two-times (Sound s e) start end h = let p : ◌≡◌ {A = Float × Float} (s, e) (start, end) = cc in ap (λ (t : Float × Float). Sound t.0 t.1) p
-
--- ---- the same, between two times
+-- ---- the same, between two times: no sound is given exactly when there is none, and a start and an end exactly when they are those of the last run
 module _ (row : List Bool) (from to : Float) where
-  nothing_run : NoSound row (first_frame from) (end_frame row to) ↔ (last_run row from to ≡ Nothing)
-  nothing_run = (
+  pub nothing-exactly : NoSound row (first_frame from) (end_frame row to) ↔ (last_run row from to ≡ None)
+  nothing-exactly = (
     λ h. last_run-is row from to ∙ ap seconds_of ((none-exactly row (first_frame from) (end_frame row to)).0 h),
     λ e. (none-exactly row (first_frame from) (end_frame row to)).1 (go (frame_run row (pos (first_frame from)) (pos (end_frame row to))) (sym (last_run-is row from to) ∙ e)),
   )
     where
-      go : (r : FrameRun) → seconds_of r ≡ Nothing → r ≡ NoFrames
-      go (Frames a b) h = absurd (let z : ◌≡◌ {A = ℕ} 0 1 = cc in omega arith)
-      go NoFrames h = refl
+      go : (r : Option FrameRun) → seconds_of r ≡ None → r ≡ None
+      go (Some run) h = absurd (let z : ◌≡◌ {A = ℕ} 0 1 = cc in omega arith)
+      go None h = refl
 
-  sound-run : (start end : Float) → SoundIs row (first_frame from) (end_frame row to) start end ↔ (last_run row from to ≡ Sound start end)
-  sound-run start end = (there, λ e. back (frame_run row (pos (first_frame from)) (pos (end_frame row to))) refl (sym (last_run-is row from to) ∙ e))
+  pub sound-exactly : (start end : Float) → SoundIs row (first_frame from) (end_frame row to) start end ↔ (last_run row from to ≡ Some (times start end))
+  sound-exactly start end = (there, λ e. back (frame_run row (pos (first_frame from)) (pos (end_frame row to))) refl (sym (last_run-is row from to) ∙ e))
     where
-      there : SoundIs row (first_frame from) (end_frame row to) start end → last_run row from to ≡ Sound start end
+      there : SoundIs row (first_frame from) (end_frame row to) start end → last_run row from to ≡ Some (times start end)
       there (first, (last, (h, (p, q)))) = last_run-is row from to ∙ sym (seconds-found first last ((found-exactly row (first_frame from) (end_frame row to) first last).0 h) p q)
 
-      back : (r : FrameRun) → frame_run row (pos (first_frame from)) (pos (end_frame row to)) ≡ r → seconds_of r ≡ Sound start end → SoundIs row (first_frame from) (end_frame row to) start end
-      back (Frames a b) f e =
-          let p : start ≡ frame_seconds (pos a) = cc in
-          let q : end ≡ frame_seconds (pos (b + 1)) = cc in
-          (a, (b, ((found-exactly row (first_frame from) (end_frame row to) a b).1 f, (p, q))))
-      back NoFrames f e = absurd (let z : ◌≡◌ {A = ℕ} 0 1 = cc in omega arith)
-
-  -- ---- no sound is given exactly when there is none, and a start and an end exactly when they are those of the last run
-  pub nothing-exactly : NoSound row (first_frame from) (end_frame row to) ↔ (times (last_run row from to) ≡ option.none)
-  nothing-exactly = (λ h. ap times (nothing_run.0 h), λ e. nothing_run.1 (no-times _ e))
-
-  pub sound-exactly : (start end : Float) → SoundIs row (first_frame from) (end_frame row to) start end ↔ (times (last_run row from to) ≡ option.some (start, end))
-  sound-exactly start end = (λ h. ap times ((sound-run start end).0 h), λ e. (sound-run start end).1 (two-times _ start end e))
+      back : (r : Option FrameRun) → frame_run row (pos (first_frame from)) (pos (end_frame row to)) ≡ r → seconds_of r ≡ Some (times start end) → SoundIs row (first_frame from) (end_frame row to) start end
+      back (Some run) f e =
+          let w : times (frame_seconds (pos run.first)) (frame_seconds (pos (run.last + 1))) ≡ times start end = cc in
+          let p : start ≡ frame_seconds (pos run.first) = sym (ap (λ (t : Times). t.start) w) in
+          let q : end ≡ frame_seconds (pos (run.last + 1)) = sym (ap (λ (t : Times). t.end) w) in
+          (run.first, (run.last, ((found-exactly row (first_frame from) (end_frame row to) run.first run.last).1 f, (p, q))))
+      back None f e = absurd (let z : ◌≡◌ {A = ℕ} 0 1 = cc in omega arith)

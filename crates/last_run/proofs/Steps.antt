@@ -1,5 +1,6 @@
 -- The search back, by the code's state: one step at a loud and at a quiet frame, what is left of the loop, and the run that it found.
 -- A frame before frame 0 is quiet and leaves the state, so only the frames from 0 count. Assumes nothing.
+use Rattle.std.specs.Prelude.{Some, None}
 use Prim.Native.Nat.{ℕ, zero, suc, ◌+◌, ◌-◌, ◌<◌, ◌≤◌}
 use mathlib.Core.Bool.{Bool, true, false, cond, ◌&&◌}
 use mathlib.Core.List.{List}
@@ -13,10 +14,9 @@ use lib.ListN.{get_or}
 use Rattle.base.specs.Whole.{to_nat}
 use Rattle.base.specs.Loop.{on, out, run_back}
 use Rattle.base.proofs.Loops.{lt_z-nat, sub-nat, sub-pos, back-out, back-next, back-stop, back_done, back-nat}
-use Rattle.last_run.specs.LastRun.{Ends, back_step, back_turn, ends_between, frames_of}
+use Rattle.last_run.specs.LastRun.{Ends, back_step, back_turn, ends_between, frames_of, frames}
 use Rattle.last_run.specs.Parts.{ends_of, turn_of}
 use Rattle.last_run.specs.declared.Search.{Search}
-use Rattle.last_run.specs.declared.FrameRun.TheVariants.{Frames, NoFrames}
 
 -- ---- the distance of two frames, compared
 pub minus-above : (f k : ℕ) → lt_z (pos 15) (pos f -ℤ pos k) ≡ ltb (k + 15) f
@@ -130,24 +130,24 @@ module _ (row : List Bool) where
   search-done lo k s h e = sym (e ∙ back_done (back_turn row) lo k (ends_of s) h)
 
 -- ---- the run, where it is long enough
-pub frames_of-under : (first last : ℕ) → last < first + 3 → frames_of (met first last) ≡ NoFrames
+pub frames_of-under : (first last : ℕ) → last < first + 3 → frames_of (met first last) ≡ None
 unfolding frames_of
 frames_of-under first last h = rw (le-ltb last 0 (omega arith), minus-under last first h)
 
-pub frames_of-from : (first last : ℕ) → first + 3 ≤ last → frames_of (met first last) ≡ Frames first last
+pub frames_of-from : (first last : ℕ) → first + 3 ≤ last → frames_of (met first last) ≡ Some (frames first last)
 unfolding frames_of
 frames_of-from first last h = rw (le-ltb last 0 (omega arith), minus-from last first h)
 
-pub frames_of-none : frames_of nothing ≡ NoFrames
+pub frames_of-none : frames_of nothing ≡ None
 unfolding frames_of
 frames_of-none = refl
 
 module _ (s : Search) where
-  pub frames-none : s.past ≡ 0 → NoFrames ≡ frames_of (ends_of s)
+  pub frames-none : s.past ≡ 0 → None ≡ frames_of (ends_of s)
   frames-none z = sym (ap frames_of (ends-none s z) ∙ frames_of-none)
 
-  pub frames-under : (s.past ≡ 0 → ⊥) → s.past - 1 < s.first + 3 → NoFrames ≡ frames_of (ends_of s)
+  pub frames-under : (s.past ≡ 0 → ⊥) → s.past - 1 < s.first + 3 → None ≡ frames_of (ends_of s)
   frames-under n h = sym (ap frames_of (ends-met s n) ∙ frames_of-under s.first (s.past - 1) h)
 
-  pub frames-from : (s.past ≡ 0 → ⊥) → s.first + 3 ≤ s.past - 1 → Frames s.first (s.past - 1) ≡ frames_of (ends_of s)
+  pub frames-from : (s.past ≡ 0 → ⊥) → s.first + 3 ≤ s.past - 1 → Some (frames s.first (s.past - 1)) ≡ frames_of (ends_of s)
   frames-from n h = sym (ap frames_of (ends-met s n) ∙ frames_of-from s.first (s.past - 1) h)

@@ -1,11 +1,10 @@
 -- What only the contracts of unchecked parts cite; a reader of the public call may skip it. Assumes nothing.
-use Rattle.std.specs.Prelude.{ℕ, ◌≤◌, ◌^◌, cond, eqb, pos, negsuc}
+use Rattle.std.specs.Prelude.{ℕ, ◌≤◌, ◌^◌, cond, eqb, pos, negsuc, Option, Some, None}
 use Rattle.std.proofs.Math.IntN.{pred_ℤ}
 use Rattle.base.specs.Loop.{Turn, on, out}
 use Rattle.last_run.specs.LastRun.{Ends}
 use Rattle.last_run.specs.declared.Search.{Search}
 use Rattle.last_run.specs.declared.FrameRun.{FrameRun}
-use Rattle.last_run.specs.declared.FrameRun.TheVariants.{Frames, NoFrames}
 
 -- ---- The definition's state, from the code's, which keeps the frame past the last, 0 for none.
 unfoldable pub ends_of : Search → Ends
@@ -20,6 +19,6 @@ abbrev pub Low : Search → Type 0
 Low s = (s.first ≤ 2 ^ 40) × (s.past ≤ 2 ^ 40)
 
 -- ---- The last frame of a run; 0 where there is none.
-abbrev pub last_frame : FrameRun → ℕ
-last_frame (Frames first last) = last
-last_frame NoFrames = 0
+abbrev pub last_frame : Option FrameRun → ℕ
+last_frame (Some run) = run.last
+last_frame None = 0

@@ -8,7 +8,7 @@ ghost use Rattle.envelope.specs.Envelope.{loud_row};
 ghost use Rattle.last_run.specs.LastRun.{back_step, ends_between, frames_of, frame_run, seconds_of, last_run, tests, last_run_call};
 ghost use Rattle.last_run.specs.Parts.{ends_of, turn_of, Low, last_frame};
 
-use base::{Refusal, Rule};
+use base::{Refusal, Times};
 
 pub mod view;
 
@@ -17,25 +17,11 @@ const END_SILENCE: usize = 15;
 // The last frame of a run that counts lies so many frames behind the first, or more.
 const MIN_RUN: usize = 3;
 
-// The first and the last frame of a run, or that there is none.
-#[derive(Drop)]
-pub enum FrameRun {
-    Frames(usize, usize),
-    NoFrames,
-}
-
-// Where a run starts and ends, in seconds, or that there is no sound (Rust's `Option<(f64, f64)>`).
-#[derive(Drop)]
-pub enum Run {
-    Sound(f64, f64),
-    Nothing,
-}
-
-// What the call answers: the last run, or why it refuses.
-#[derive(Drop)]
-pub enum Answer {
-    Accepted(Run),
-    Refused(Refusal),
+// The first and the last frame of a run.
+#[derive(Clone, Copy)]
+pub struct FrameRun {
+    pub first: usize,
+    pub last: usize,
 }
 
 // A search backwards: the first frame of the run so far, the frame past its last (0: no loud frame was met), and whether it is over.
@@ -101,62 +87,59 @@ fn search_back(levels: &[f64], floor: f64, lo: usize, hi: usize) -> Search
         past: 0,
         over: false,
     };
-    let mut k = hi;
-    while lo < k {
-        s = step(s, envelope::loud_at(levels, floor, k - 1), k - 1);
+    for k in (lo..hi).rev() {
+        s = step(s, envelope::loud_at(levels, floor, k), k);
         if s.over {
             return s;
         }
-        k -= 1;
     }
     s
 }
 
 // The run that a search found, where it is long enough.
-pub fn frames_of(s: Search) -> FrameRun
+pub fn frames_of(s: Search) -> Option<FrameRun>
     requires { Low s }
     ensures { (result ≡ frames_of (ends_of s)) × (last_frame result < 2 ^ 40) }
 {
     if s.past == 0 {
-        return FrameRun::NoFrames;
+        return None;
     }
     if s.past - 1 < s.first + MIN_RUN {
-        return FrameRun::NoFrames;
+        return None;
     }
-    FrameRun::Frames(s.first, s.past - 1)
+    Some(FrameRun {
+        first: s.first,
+        last: s.past - 1,
+    })
 }
 
 // The last run of the frames from lo to before hi.
-pub fn frame_run(levels: &[f64], floor: f64, lo: usize, hi: usize) -> FrameRun
+pub fn frame_run(levels: &[f64], floor: f64, lo: usize, hi: usize) -> Option<FrameRun>
     requires { hi ≤ 2 ^ 40 }
     ensures { (result ≡ frame_run (loud_row floor levels.now) (pos lo) (pos hi)) × (last_frame result < 2 ^ 40) }
 {
     frames_of(search_back(levels, floor, lo, hi))
 }
 
-// A run's start and end in seconds.
-pub fn seconds_of(r: FrameRun) -> Run
+// A run's start and end in seconds, if there is one.
+pub fn seconds_of(r: Option<FrameRun>) -> Option<Times>
     requires { last_frame r < 2 ^ 40 }
     ensures { result ≡ seconds_of r }
 {
-    match r {
-        FrameRun::Frames(first, last) => {
-            Run::Sound(
-                frames::index_seconds(first),
-                frames::index_seconds(last + 1),
-            )
-        }
-        FrameRun::NoFrames => Run::Nothing,
-    }
+    let run = r?;
+    Some(Times {
+        start: frames::index_seconds(run.first),
+        end: frames::index_seconds(run.last + 1),
+    })
 }
 
-// The last run between two times (fit.rs, last_run); nothing is checked.
-pub fn run_between(levels: &[f64], floor: f64, from: f64, to: f64) -> Run
+// The last run between two times, if there is sound (fit.rs, last_run); nothing is checked.
+pub fn run_between(levels: &[f64], floor: f64, from: f64, to: f64) -> Option<Times>
     requires { length levels.now ≤ 2 ^ 40 }
     ensures { result ≡ last_run (loud_row floor levels.now) from to }
 {
     let lo = frames::frame_index(from);
-    let hi = base::least(levels.len(), frames::frame_index(to));
+    let hi = levels.len().min(frames::frame_index(to));
     seconds_of(frame_run(levels, floor, lo, hi))
 }
 
@@ -164,35 +147,36 @@ pub fn run_between(levels: &[f64], floor: f64, from: f64, to: f64) -> Run
 fn bad_times(from: f64, to: f64) -> bool
     ensures { result ≡ (bad_time from || bad_time to) }
 {
-    if limits::times::bad_time(from) {
-        return true;
-    }
-    limits::times::bad_time(to)
+    limits::times::bad_time(from) || limits::times::bad_time(to)
 }
 
 // The first refusal that applies, of 4, 1 and 7.
-fn judge(levels: usize, count: usize, from: f64, to: f64) -> Rule
+#[tactic(auto, unfolding(crate::specs::LastRun::tests, base::specs::Refusals::first))]
+fn judge(levels: usize, count: usize, from: f64, to: f64) -> Result<(), Refusal>
     ensures { result ≡ first (tests levels count from to) }
 {
     if limits::sizes::many_samples(count) {
-        return Rule::Breaks(Refusal::Counts);
+        return Err(Refusal::Counts);
     }
     if bad_times(from, to) {
-        return Rule::Breaks(Refusal::Time);
+        return Err(Refusal::Time);
     }
     if limits::sizes::other_levels(levels, count) {
-        return Rule::Breaks(Refusal::Levels);
+        return Err(Refusal::Levels);
     }
-    Rule::Fine
+    Ok(())
 }
 
 // The last run between two times, of levels and times within the limits (fit.rs, last_run).
-pub fn last_run_at(levels: &[f64], floor: f64, count: usize, from: f64, to: f64) -> Answer
+pub fn last_run_at(
+    levels: &[f64],
+    floor: f64,
+    count: usize,
+    from: f64,
+    to: f64,
+) -> Result<Option<Times>, Refusal>
     ensures { result ≡ last_run_call levels.now floor count from to }
 {
-    let rule = judge(levels.len(), count, from, to);
-    match rule {
-        Rule::Breaks(why) => Answer::Refused(why),
-        Rule::Fine => Answer::Accepted(run_between(levels, floor, from, to)),
-    }
+    judge(levels.len(), count, from, to)?;
+    Ok(run_between(levels, floor, from, to))
 }

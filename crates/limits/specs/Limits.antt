@@ -1,9 +1,9 @@
 -- Document 01, "How much is taken, and which check is first": the tests behind the refusals. Assumes nothing.
-use Rattle.std.specs.Prelude.{ℕ, ◌/◌, Bool, not, true, false, cond, ◌&&◌, ◌||◌, List, [], ◌∷◌, eqb, ltb, Float}
+use Rattle.std.specs.Prelude.{ℕ, ◌/◌, Bool, not, false, cond, ◌&&◌, ◌||◌, List, [], ◌∷◌, eqb, ltb, Float, Result, Ok, Err, is_err}
 use Rattle.std.specs.Float.{nan, inf, fin, binary64}
 use Rattle.std.specs.Float.Ieee.{le, of_bits}
-use Rattle.limits.specs.declared.times.TimeTest.{TimeTest}
-use Rattle.limits.specs.declared.times.TimeTest.TheVariants.{Fine, NotFinite, Outside}
+use Rattle.limits.specs.declared.times.NoTime.{NoTime}
+use Rattle.limits.specs.declared.times.NoTime.TheVariants.{NotFinite, Outside}
 
 -- ======== The tests of counts and lengths.
 
@@ -36,27 +36,22 @@ most = of_bits binary64 0x40bc_2000_0000_0000
 abbrev pub least : Float
 least = of_bits binary64 0xc0bc_2000_0000_0000
 
-unfoldable pub time_of : Float → TimeTest
-time_of nan = NotFinite
-time_of (inf s) = NotFinite
-time_of (fin s m e) = cond (le least (fin s m e) && le (fin s m e) most) Fine Outside
-
-abbrev pub is_fine : TimeTest → Bool
-is_fine Fine = true
-is_fine NotFinite = false
-is_fine Outside = false
+unfoldable pub time_of : Float → Result (Unit {0}) NoTime
+time_of nan = Err NotFinite
+time_of (inf s) = Err NotFinite
+time_of (fin s m e) = cond (le least (fin s m e) && le (fin s m e) most) (Ok tt) (Err Outside)
 
 abbrev pub bad_time : Float → Bool
-bad_time t = not (is_fine (time_of t))
+bad_time t = is_err (time_of t)
 
 -- ---- "a limit for evening may also be +infinity"
-unfoldable pub limit_of : Float → TimeTest
-limit_of nan = NotFinite
-limit_of (inf s) = cond s NotFinite Fine
+unfoldable pub limit_of : Float → Result (Unit {0}) NoTime
+limit_of nan = Err NotFinite
+limit_of (inf s) = cond s (Err NotFinite) (Ok tt)
 limit_of (fin s m e) = time_of (fin s m e)
 
 abbrev pub bad_limit : Float → Bool
-bad_limit t = not (is_fine (limit_of t))
+bad_limit t = is_err (limit_of t)
 
 -- ======== The tests of lists.
 

@@ -1,12 +1,9 @@
--- Document 01: "Order: 3, 4, 1, 2, 7, 6, 8"; which refusals apply, joined from what is tested; and what an answer says. Assumes nothing.
+-- Document 01: "Order: 3, 4, 1, 2, 7, 6, 8"; which refusals apply, joined from what is tested. Assumes nothing.
 use Rattle.std.specs.Prelude.{ℕ, Bool, ◌&&◌, ◌||◌, List, [], ◌∷◌, eqb}
-use Rattle.base.specs.Refusals.{Test, test, first, number, Says, accepts, refuses}
+use Rattle.base.specs.Refusals.{Test, test, first, number, Rule}
 use Rattle.base.specs.declared.Refusal.{Refusal}
 use Rattle.base.specs.declared.Refusal.TheVariants.{Time, Letters, Lengths, Counts, Places, Levels, Cut}
-use Rattle.base.specs.declared.Rule.{Rule}
 use Rattle.limits.specs.declared.Applies.{Applies}
-use Rattle.limits.specs.declared.Answer.{Answer}
-use Rattle.limits.specs.declared.Answer.TheVariants.{Accepted, Refused}
 
 -- ---- What applies where one test is made: its refusal, by its number, if the test says so; and no other. (5 is the program's alone: it has no field.)
 unfoldable pub when : Bool → Refusal → Applies
@@ -41,8 +38,3 @@ in_order a =
 -- ---- The first refusal that applies.
 unfoldable pub chain : Applies → Rule
 chain a = first (in_order a)
-
--- ---- "A refusal returns its number only." Accepted, a call that moves the times of words gives nothing more back.
-abbrev pub says : Answer → Says (Unit {0})
-says Accepted = accepts tt
-says (Refused r) = refuses (number r)

@@ -5,13 +5,13 @@ ghost use Rattle.std.specs.Prelude.{◌≡◌};
 ghost use Rattle.limits.specs.Limits.{bad_time, any, bad_word_times, bad_span_times, bad_letters, bad_counts, outside};
 ghost use Rattle.limits.specs.Order.{when as when_of, also as also_of, chain as chain_of};
 
-use base::{Refusal, Rule};
+use base::Refusal;
 
 pub mod sizes;
 pub mod times;
 
 // Which refusals apply, whatever comes first: 3, 4, 1, 2, 7, 6, 8.
-#[derive(Drop)]
+#[derive(Clone, Copy)]
 pub struct Applies {
     pub lengths: bool,
     pub counts: bool,
@@ -22,26 +22,51 @@ pub struct Applies {
     pub cut: bool,
 }
 
-// What a call answers that moves the times of words: that it did, or why it refuses.
-#[derive(Drop)]
-pub enum Answer {
-    Accepted,
-    Refused(Refusal),
-}
+// No refusal applies.
+const NONE: Applies = Applies {
+    lengths: false,
+    counts: false,
+    times: false,
+    letters: false,
+    levels: false,
+    places: false,
+    cut: false,
+};
 
-// What applies where one test is made: its refusal, by its number, if the test says so; and no other.
+// What applies where one test is made: its refusal, if the test says so; and no other.
 pub fn when(applies: bool, why: Refusal) -> Applies
     ensures { result ≡ when_of applies why }
 {
-    let n = base::number(why);
-    Applies {
-        lengths: (n == 3) & applies,
-        counts: (n == 4) & applies,
-        times: (n == 1) & applies,
-        letters: (n == 2) & applies,
-        levels: (n == 7) & applies,
-        places: (n == 6) & applies,
-        cut: (n == 8) & applies,
+    match why {
+        Refusal::Lengths => Applies {
+            lengths: applies,
+            ..NONE
+        },
+        Refusal::Counts => Applies {
+            counts: applies,
+            ..NONE
+        },
+        Refusal::Time => Applies {
+            times: applies,
+            ..NONE
+        },
+        Refusal::Letters => Applies {
+            letters: applies,
+            ..NONE
+        },
+        Refusal::Levels => Applies {
+            levels: applies,
+            ..NONE
+        },
+        Refusal::Places => Applies {
+            places: applies,
+            ..NONE
+        },
+        Refusal::Cut => Applies {
+            cut: applies,
+            ..NONE
+        },
+        Refusal::Layout => NONE,
     }
 }
 
@@ -61,93 +86,66 @@ pub fn also(a: Applies, b: Applies) -> Applies
 }
 
 // The first refusal that applies.
-pub fn chain(a: Applies) -> Rule
+pub fn chain(a: Applies) -> Result<(), Refusal>
     ensures { result ≡ chain_of a }
 {
     if a.lengths {
-        return Rule::Breaks(Refusal::Lengths);
+        return Err(Refusal::Lengths);
     }
     if a.counts {
-        return Rule::Breaks(Refusal::Counts);
+        return Err(Refusal::Counts);
     }
     if a.times {
-        return Rule::Breaks(Refusal::Time);
+        return Err(Refusal::Time);
     }
     if a.letters {
-        return Rule::Breaks(Refusal::Letters);
+        return Err(Refusal::Letters);
     }
     if a.levels {
-        return Rule::Breaks(Refusal::Levels);
+        return Err(Refusal::Levels);
     }
     if a.places {
-        return Rule::Breaks(Refusal::Places);
+        return Err(Refusal::Places);
     }
     if a.cut {
-        return Rule::Breaks(Refusal::Cut);
+        return Err(Refusal::Cut);
     }
-    Rule::Fine
+    Ok(())
 }
 
 // Whether some time of a list is not fine.
 fn bad_times(list: &[f64]) -> bool
     ensures { result ≡ any bad_time list.now }
 {
-    let mut i = 0;
-    while i < list.len() {
-        if times::bad_time(list[i]) {
-            return true;
-        }
-        i += 1;
-    }
-    false
+    list.iter().any(|t| times::bad_time(*t))
 }
 
 // A word's time that is not fine (refusal 1).
 pub fn bad_word_times(starts: &[f64], ends: &[f64]) -> bool
     ensures { result ≡ bad_word_times starts.now ends.now }
 {
-    if bad_times(starts) {
-        return true;
-    }
-    bad_times(ends)
+    bad_times(starts) || bad_times(ends)
 }
 
 // A span's time that is not fine (refusal 1).
 pub fn bad_span_times(starts: &[f64], ends: &[f64]) -> bool
     ensures { result ≡ bad_span_times starts.now ends.now }
 {
-    if bad_times(starts) {
-        return true;
-    }
-    bad_times(ends)
+    bad_times(starts) || bad_times(ends)
 }
 
 // Whether some number of a list is below the least or above the most.
 fn any_outside(list: &[u32], least: u32, most: u32) -> bool
     ensures { result ≡ any (outside least most) list.now }
 {
-    let mut i = 0;
-    while i < list.len() {
-        let n = list[i];
-        if n < least {
-            return true;
-        }
-        if most < n {
-            return true;
-        }
-        i += 1;
-    }
-    false
+    list.iter().any(|n| *n < least || most < *n)
 }
 
 // Letters or units outside their range (refusal 2).
 pub fn bad_letters(letters: &[u32], units: &[u32]) -> bool
     ensures { result ≡ bad_letters letters.now units.now }
 {
-    if any_outside(letters, 1, 1000) {
-        return true;
-    }
-    any_outside(units, 1, 10000)
+    any_outside(letters, 1, 1000) || any_outside(units, 1, 10000)
 }
 
 // A span's word count above 4,096 (refusal 4).

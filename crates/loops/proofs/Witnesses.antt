@@ -1,4 +1,5 @@
 -- Inputs for each answer of `collapse_loops`: one that is accepted, with all that it leaves, and one for each refusal. Assumes nothing.
+use Rattle.std.specs.Prelude.{Ok, Err}
 use Prim.Native.Nat.{ℕ, ◌<◌}
 use mathlib.Core.Path.{◌≡◌, refl, ap, ◌∙◌}
 use mathlib.Core.Bool.{true, false}
@@ -9,15 +10,14 @@ use lib.IntN.{pos}
 use lib.ListN.{length, replicate, length-replicate}
 use lib.Ieee.{Float, nan, fin, le, lt, eq, of_bits}
 use Rattle.base.specs.Loop.{each, run}
-use Rattle.base.specs.Refusals.{first, refuses, says_of}
+use Rattle.base.specs.Refusals.{first, refuses, says_of, says}
 use Rattle.base.specs.Words.{Words, words, words_in_places}
 use Rattle.base.specs.declared.Refusal.TheVariants.{Lengths, Time, Letters}
 use Rattle.base.proofs.First.{first-skip, first-here, says_first}
 use Rattle.limits.specs.Limits.{time_of, any}
 use Rattle.limits.specs.Order.{when, also, in_order, chain}
 use Rattle.word_calls.specs.Calls.{uneven, of_words}
-use Rattle.loops.specs.declared.Answer.TheVariants.{Accepted, Refused}
-use Rattle.loops.specs.Loops.{equal, same, copies_end, is_loop, loop_turn, pass, collapse_loops, output, says, collapse_call}
+use Rattle.loops.specs.Loops.{equal, same, copies_end, is_loop, loop_turn, pass, collapse_loops, output, collapse_call, left}
 use Rattle.loops.specs.Parts.{only_keys}
 use Rattle.loops.proofs.Promises.{refused-exactly}
 
@@ -27,19 +27,19 @@ sec n = fin false n (pos 0)
 
 -- ---- Keys 1 1 1 2 give 1 2: the first and the last word, and two places of zero.
 witness-accepted : collapse_call (words (sec 0 ∷ sec 1 ∷ sec 2 ∷ sec 3 ∷ []) (sec 1 ∷ sec 2 ∷ sec 3 ∷ sec 4 ∷ []) (5 ∷ 6 ∷ 7 ∷ 8 ∷ []) (15 ∷ 16 ∷ 17 ∷ 18 ∷ []) (1 ∷ 1 ∷ 1 ∷ 2 ∷ []))
-    ≡ output (Accepted 2 true) (words (sec 0 ∷ sec 3 ∷ sec 0 ∷ sec 0 ∷ []) (sec 1 ∷ sec 4 ∷ sec 0 ∷ sec 0 ∷ []) (5 ∷ 8 ∷ 0 ∷ 0 ∷ []) (15 ∷ 18 ∷ 0 ∷ 0 ∷ []) (1 ∷ 2 ∷ 0 ∷ 0 ∷ []))
+    ≡ output (Ok (left 2 true)) (words (sec 0 ∷ sec 3 ∷ sec 0 ∷ sec 0 ∷ []) (sec 1 ∷ sec 4 ∷ sec 0 ∷ sec 0 ∷ []) (5 ∷ 8 ∷ 0 ∷ 0 ∷ []) (15 ∷ 18 ∷ 0 ∷ 0 ∷ []) (1 ∷ 2 ∷ 0 ∷ 0 ∷ []))
 unfolding collapse_call chain in_order first of_words also when uneven any time_of le lt eq of_bits collapse_loops pass loop_turn is_loop same equal copies_end run each words_in_places
 witness-accepted = refl
 
-witness-lengths : collapse_call (words [] [] [] [] (1 ∷ [])) ≡ output (Refused Lengths) (words [] [] [] [] (1 ∷ []))
+witness-lengths : collapse_call (words [] [] [] [] (1 ∷ [])) ≡ output (Err Lengths) (words [] [] [] [] (1 ∷ []))
 unfolding collapse_call chain in_order first of_words also when uneven
 witness-lengths = refl
 
-witness-time : collapse_call (words (nan ∷ []) (sec 1 ∷ []) (0 ∷ []) (1 ∷ []) (1 ∷ [])) ≡ output (Refused Time) (words (nan ∷ []) (sec 1 ∷ []) (0 ∷ []) (1 ∷ []) (1 ∷ []))
+witness-time : collapse_call (words (nan ∷ []) (sec 1 ∷ []) (0 ∷ []) (1 ∷ []) (1 ∷ [])) ≡ output (Err Time) (words (nan ∷ []) (sec 1 ∷ []) (0 ∷ []) (1 ∷ []) (1 ∷ []))
 unfolding collapse_call chain in_order first of_words also when uneven any time_of
 witness-time = refl
 
-witness-letters : collapse_call (words (sec 0 ∷ []) (sec 1 ∷ []) (0 ∷ []) (1 ∷ []) (1 ∷ [])) ≡ output (Refused Letters) (words (sec 0 ∷ []) (sec 1 ∷ []) (0 ∷ []) (1 ∷ []) (1 ∷ []))
+witness-letters : collapse_call (words (sec 0 ∷ []) (sec 1 ∷ []) (0 ∷ []) (1 ∷ []) (1 ∷ [])) ≡ output (Err Letters) (words (sec 0 ∷ []) (sec 1 ∷ []) (0 ∷ []) (1 ∷ []) (1 ∷ []))
 unfolding collapse_call chain in_order first of_words also when uneven any time_of le lt eq of_bits
 witness-letters = refl
 

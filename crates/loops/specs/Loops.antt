@@ -1,14 +1,12 @@
 -- loops.rs, and document 01's "Loops": "three or more equal neighbouring runs of n keys become one", for n = 1 to 4. Assumes nothing.
-use Rattle.std.specs.Prelude.{ℕ, ◌+◌, ◌*◌, Bool, true, false, cond, ◌&&◌, List, [], ◌∷◌, ◌++◌, ℤ, pos, eqb, leb, take, drop}
+use Rattle.loops.specs.declared.Left.{Left}
+use Rattle.base.specs.declared.Refusal.{Refusal}
+use Rattle.std.specs.Prelude.{ℕ, ◌+◌, ◌*◌, Bool, true, false, cond, ◌&&◌, List, [], ◌∷◌, ◌++◌, ℤ, pos, eqb, leb, take, drop, Ok, Err, Result}
 use Rattle.base.specs.Loop.{Turn, on, out, run, each}
 use Rattle.base.specs.Words.{Words, words, count, words_in_places}
-use Rattle.base.specs.Refusals.{number, Says, accepts, refuses}
-use Rattle.base.specs.declared.Rule.{Rule}
-use Rattle.base.specs.declared.Rule.TheVariants.{Fine, Breaks}
+use Rattle.base.specs.Refusals.{Rule}
 use Rattle.limits.specs.Order.{chain}
 use Rattle.word_calls.specs.Calls.{of_words}
-use Rattle.loops.specs.declared.Answer.{Answer}
-use Rattle.loops.specs.declared.Answer.TheVariants.{Accepted, Refused}
 
 -- ======== One place: a run of n keys, and its copies.
 
@@ -73,26 +71,24 @@ pass n c = each (loop_turn n) (count c.words) 0 c
 unfoldable pub collapse_loops : Words → Collapsed
 collapse_loops ws = each pass max_run 1 (record { words = ws; found = false })
 
--- ======== What the public call answers and leaves: "the new count, and a yes exactly when it is smaller".
+-- ======== What the public call answers and leaves: "the new count, and a yes exactly when it is smaller (`found`)".
 
--- ---- "Given back: the new count, and a yes exactly when it is smaller (`found`)"; "A refusal returns its number only".
-abbrev pub says : Answer → Says (ℕ × Bool)
-says (Accepted n found) = accepts (n, found)
-says (Refused r) = refuses (number r)
+abbrev pub left : ℕ → Bool → Left
+left n found = record { count = n; found = found }
 
 pub record Output : Type 0 where
-  pub answer : Answer
+  pub answer : Result Left Refusal
   pub words : Words
 
-abbrev pub output : Answer → Words → Output
+abbrev pub output : Result Left Refusal → Words → Output
 output a ws = record { answer = a; words = ws }
 
 abbrev pub accepted : Collapsed → ℕ → Output
-accepted c places = output (Accepted (count c.words) c.found) (words_in_places places c.words)
+accepted c places = output (Ok (left (count c.words) c.found)) (words_in_places places c.words)
 
 abbrev pub by_rule : Rule → Words → Output
-by_rule Fine ws = accepted (collapse_loops ws) (count ws)
-by_rule (Breaks r) ws = output (Refused r) ws
+by_rule (Ok u) ws = accepted (collapse_loops ws) (count ws)
+by_rule (Err r) ws = output (Err r) ws
 
 -- ---- Refusals 3, 4, 1, 2, in this order.
 unfoldable pub collapse_call : Words → Output

@@ -13,14 +13,7 @@ fn same(keys: &[u32], n: usize, a: usize, b: usize) -> bool
     requires { (a + n ≤ length keys.now) × (b + n ≤ length keys.now) }
     ensures { result ≡ same_of n (only_keys keys.now) a b }
 {
-    let mut k = 0;
-    while k < n {
-        if keys[a + k] != keys[b + k] {
-            return false;
-        }
-        k += 1;
-    }
-    true
+    keys[a..a + n] == keys[b..b + n]
 }
 
 // Whether the n keys at i and those from `rest` on begin with three copies.
@@ -28,13 +21,7 @@ fn is_loop(keys: &[u32], len: usize, n: usize, i: usize, rest: usize) -> bool
     requires { (n ≤ 4) × ((i + n ≤ rest) × ((rest ≤ len) × (len ≤ length keys.now))) }
     ensures { result ≡ is_loop n i (held_keys (i + n) rest len keys.now) }
 {
-    if len - rest < (MIN_COPIES - 1) * n {
-        return false;
-    }
-    if same(keys, n, i, rest) {
-        return same(keys, n, i, rest + n);
-    }
-    false
+    (MIN_COPIES - 1) * n <= len - rest && same(keys, n, i, rest) && same(keys, n, i, rest + n)
 }
 
 // Where the copies of the n keys at i end, from `rest` on.
@@ -43,10 +30,7 @@ fn copies_end(keys: &[u32], len: usize, n: usize, i: usize, rest: usize) -> usiz
     ensures { (i + n + (result - rest) ≡ copies_end n (held_keys (i + n) rest len keys.now) i) × ((rest ≤ result) × (result ≤ len)) }
 {
     let mut end = rest;
-    while n <= len - end {
-        if !same(keys, n, i, end) {
-            return end;
-        }
+    while n <= len - end && same(keys, n, i, end) {
         end += n;
     }
     end
@@ -58,9 +42,10 @@ pub fn past_loop(keys: &[u32], len: usize, n: usize, i: usize, rest: usize) -> u
     ensures { (i + n + (result - rest) ≡ goes_on n i (held_keys (i + n) rest len keys.now)) × ((rest ≤ result) × (result ≤ len)) }
 {
     if is_loop(keys, len, n, i, rest) {
-        return copies_end(keys, len, n, i, rest);
+        copies_end(keys, len, n, i, rest)
+    } else {
+        rest
     }
-    rest
 }
 
 // Puts the word at place `from` at place `to`.

@@ -4,23 +4,16 @@
 ghost use Rattle.std.specs.Prelude.{◌≡◌, length};
 ghost use Rattle.base.specs.Words.{words};
 ghost use Rattle.base.specs.Parts.{OneLength};
-ghost use Rattle.loops.specs.Loops.{collapse_loops, output, accepted, collapse_call};
+ghost use Rattle.loops.specs.Loops.{output, collapse_call};
 ghost use Rattle.loops.specs.Parts.{Collapsing};
 
-use base::{Refusal, Rule};
+use base::Refusal;
 
 pub mod copy;
 pub mod pass;
 
-// What the call answers: the words left and whether a loop was found, or why it refuses.
-#[derive(Drop)]
-pub enum Answer {
-    Accepted(usize, bool),
-    Refused(Refusal),
-}
-
 // What is left: how many words, and whether a loop was found.
-#[derive(Drop)]
+#[derive(Clone, Copy)]
 pub struct Left {
     pub count: usize,
     pub found: bool,
@@ -47,23 +40,6 @@ pub fn collapse(
     }
 }
 
-// The answer of an accepted call.
-fn accept(
-    starts: &mut [f64],
-    ends: &mut [f64],
-    letters: &mut [u32],
-    units: &mut [u32],
-    keys: &mut [u32],
-) -> Answer
-    requires { OneLength (length keys.old) (words starts.old ends.old letters.old units.old keys.old) }
-    ensures { let before = words starts.old ends.old letters.old units.old keys.old in
-        let after = words starts.new ends.new letters.new units.new keys.new in
-        output result after ≡ accepted (collapse_loops before) (length keys.old) }
-{
-    let left = collapse(starts, ends, letters, units, keys);
-    Answer::Accepted(left.count, left.found)
-}
-
 // Collapses loops, of words within the limits: the first copy of each stays (loops.rs, collapse_loops).
 pub fn collapse_loops(
     starts: &mut [f64],
@@ -71,14 +47,11 @@ pub fn collapse_loops(
     letters: &mut [u32],
     units: &mut [u32],
     keys: &mut [u32],
-) -> Answer
+) -> Result<Left, Refusal>
     ensures { let before = words starts.old ends.old letters.old units.old keys.old in
         let after = words starts.new ends.new letters.new units.new keys.new in
         output result after ≡ collapse_call before }
 {
-    let rule = limits::chain(word_calls::of_words(starts, ends, letters, units, keys));
-    match rule {
-        Rule::Breaks(why) => Answer::Refused(why),
-        Rule::Fine => accept(starts, ends, letters, units, keys),
-    }
+    limits::chain(word_calls::of_words(starts, ends, letters, units, keys))?;
+    Ok(collapse(starts, ends, letters, units, keys))
 }

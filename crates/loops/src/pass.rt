@@ -25,6 +25,7 @@ fn collapse_runs(
         let after = words starts.new ends.new letters.new units.new keys.new in
         (first_words result after ≡ pass_words n (first_words len before)) × (result ≤ len) }
 {
+    // Each turn goes on where the call found the next word to stay: no count.
     let mut i = 0;
     let mut rest = super::copy::past_loop(keys, len, n, 0, n);
     while rest < len {
@@ -71,10 +72,8 @@ pub fn passes(
         (first_words result after ≡ loop_words before) × (result ≤ length keys.old) }
 {
     let mut len = keys.len();
-    let mut n = 1;
-    while n <= MAX_RUN {
+    for n in 1..=MAX_RUN {
         len = pass(starts, ends, letters, units, keys, len, n);
-        n += 1;
     }
     len
 }

@@ -1,4 +1,5 @@
 -- The call `snap_onsets` in plain words, and for the code what its tests found. By the laws of calls that move only times. Assumes nothing.
+use Rattle.std.specs.Prelude.{Ok, Err, IsErrAnd}
 use Prim.Native.Nat.{ℕ}
 use mathlib.Core.Path.{◌≡◌}
 use mathlib.Core.Logic.{◌↔◌}
@@ -7,13 +8,10 @@ use lib.ListN.{length}
 use lib.Ieee.{Float}
 use Rattle.base.specs.Words.{Words, words, Edges, edges}
 use Rattle.base.specs.declared.Refusal.{Refusal}
-use Rattle.base.specs.declared.Rule.{Rule}
-use Rattle.base.specs.declared.Rule.TheVariants.{Fine, Breaks}
-use Rattle.base.specs.Refusals.{First, accepts, refuses, Judged}
-use Rattle.limits.specs.Order.{in_order, says}
+use Rattle.base.specs.Refusals.{First, accepts, refuses, Judged, Rule, says}
+use Rattle.limits.specs.Order.{in_order}
 use Rattle.word_calls.specs.Within.{SoundWithin}
 use Rattle.word_calls.specs.Calls.{sound_applies, sound_rule, output, Keeps}
-use Rattle.limits.specs.declared.Answer.TheVariants.{Accepted, Refused}
 use Rattle.word_calls.proofs.Moved as moves
 use Rattle.envelope.specs.Envelope.{loud_row}
 use Rattle.onsets.specs.Onsets.{snap_onsets, onsets_call}
@@ -51,11 +49,10 @@ module _ (ws : Words) (levels : List Float) (floor : Float) (count : ℕ) where
   others-stay = moves.moved_keeps given ws (sound_rule ws (length levels) count)
 
   -- for the code
-  module _ {found : Rule} (is : found ≡ sound_rule ws (length levels) count) where
-    pub refused-made : (r : Refusal) → found ≡ Breaks r → output (Refused r) ws ≡ onsets_call ws levels floor count
-    unfolding onsets_call
-    refused-made r e = moves.refused-made (sound_rule ws (length levels) count) given ws is r e
+  pub refused-made : {out : Rule} {why : Refusal} → IsErrAnd out (λ (x : Refusal). x ≡ why) → Err why ≡ sound_rule ws (length levels) count → output out ws ≡ onsets_call ws levels floor count
+  unfolding onsets_call
+  refused-made h f = moves.refused-made (sound_rule ws (length levels) count) given ws h f
 
-    pub accepted-made : (s e : List Float) → found ≡ Fine → edges s e ≡ given → output Accepted (words s e ws.letters ws.units ws.keys) ≡ onsets_call ws levels floor count
-    unfolding onsets_call
-    accepted-made s e f m = moves.moved_made (sound_rule ws (length levels) count) given ws is s e f m
+  pub accepted-made : (s e : List Float) → Ok tt ≡ sound_rule ws (length levels) count → edges s e ≡ given → output (Ok tt) (words s e ws.letters ws.units ws.keys) ≡ onsets_call ws levels floor count
+  unfolding onsets_call
+  accepted-made s e f m = moves.moved_made (sound_rule ws (length levels) count) given ws s e f m

@@ -8,8 +8,7 @@ ghost use Rattle.word_calls.specs.Calls.{output};
 ghost use Rattle.onsets.specs.Onsets.{onset_frame, onset_of, prev_end, snap_onsets, onsets_call};
 ghost use Rattle.onsets.specs.Parts.{onset_seconds, goes_on};
 
-use base::{Rule, Times};
-use limits::Answer;
+use base::{Refusal, Times};
 
 pub mod view;
 
@@ -24,13 +23,7 @@ const EDGE_QUIET: usize = 8;
 fn frames_back(lo: usize, f: usize, back: usize) -> usize
     ensures { result ≡ max lo (f - back) }
 {
-    if f < back {
-        return lo;
-    }
-    if lo < f - back {
-        return f - back;
-    }
-    lo
+    lo.max(f.saturating_sub(back))
 }
 
 // The earliest loud frame before f that is reached, down to lo, without 8 quiet ones in a row; f where there is none.
@@ -63,16 +56,15 @@ fn onset_seconds(levels: &[f64], floor: f64, prev_end: f64, start: f64) -> f64
 }
 
 // A word that follows no pause.
+#[tactic(auto, unfolding(crate::specs::Parts::goes_on))]
 fn goes_on(i: usize, prev_end: f64, start: f64) -> bool
     ensures { result ≡ goes_on i prev_end start }
 {
-    if 0 < i {
-        return start - prev_end < PAUSE;
-    }
-    false
+    i > 0 && start - prev_end < PAUSE
 }
 
 // Word i's times, its start where its sound rises.
+#[tactic(auto, unfolding(crate::specs::Onsets::onset_of, crate::specs::Parts::goes_on, crate::specs::Parts::onset_seconds))]
 fn snap_onset(levels: &[f64], floor: f64, i: usize, prev_end: f64, w: Times) -> Times
     ensures { result ≡ onset_of (loud_row floor levels.now) i prev_end w }
 {
@@ -87,14 +79,12 @@ fn snap_onset(levels: &[f64], floor: f64, i: usize, prev_end: f64, w: Times) -> 
 }
 
 // Where the word before word i ends; 0 for the first word.
+#[tactic(auto, unfolding(crate::specs::Onsets::prev_end))]
 fn prev_end_at(ends: &[f64], i: usize) -> f64
     requires { i ≤ length ends.now }
     ensures { result ≡ prev_end ends.now i }
 {
-    if 0 < i {
-        return ends[i - 1];
-    }
-    0.0
+    if i > 0 { ends[i - 1] } else { 0.0 }
 }
 
 // Moves the start of each word after a pause back to where its sound rises (onsets.rs, snap_onsets); nothing is checked.
@@ -104,15 +94,13 @@ pub fn move_onsets(starts: &mut [f64], ends: &[f64], levels: &[f64], floor: f64)
         let after = edges starts.new ends.now in
         after ≡ snap_onsets (loud_row floor levels.now) before }
 {
-    let mut i = 0;
-    while i < starts.len() {
+    for i in 0..starts.len() {
         let w = Times {
             start: starts[i],
             end: ends[i],
         };
         let t = snap_onset(levels, floor, i, prev_end_at(ends, i), w);
         starts[i] = t.start;
-        i += 1;
     }
 }
 
@@ -126,17 +114,12 @@ pub fn snap_onsets(
     letters: &[u32],
     units: &[u32],
     keys: &[u32],
-) -> Answer
+) -> Result<(), Refusal>
     ensures { let before = words starts.old ends.now letters.now units.now keys.now in
         let after = words starts.new ends.now letters.now units.now keys.now in
         output result after ≡ onsets_call before levels.now floor count }
 {
-    let rule = word_calls::sound_rule(starts, ends, letters, units, keys, levels.len(), count);
-    match rule {
-        Rule::Breaks(why) => Answer::Refused(why),
-        Rule::Fine => {
-            move_onsets(starts, ends, levels, floor);
-            Answer::Accepted
-        }
-    }
+    word_calls::sound_rule(starts, ends, letters, units, keys, levels.len(), count)?;
+    move_onsets(starts, ends, levels, floor);
+    Ok(())
 }

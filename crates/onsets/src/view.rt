@@ -4,8 +4,8 @@ ghost use Rattle.base.specs.Words.{words};
 ghost use Rattle.word_calls.specs.Calls.{output};
 ghost use Rattle.onsets.specs.Onsets.{onsets_call};
 
+use base::Refusal;
 use envelope::view::Envelope;
-use limits::Answer;
 
 // Moves starts back to where the sound of the recording whose envelope is e rises (onsets.rs, snap_onsets).
 pub fn snap_onsets<'a>(
@@ -15,7 +15,7 @@ pub fn snap_onsets<'a>(
     letters: &[u32],
     units: &[u32],
     keys: &[u32],
-) -> Answer
+) -> Result<(), Refusal>
     ensures { let before = words starts.old ends.now letters.now units.now keys.now in
         let after = words starts.new ends.now letters.now units.now keys.now in
         output result after ≡ onsets_call before e.entry.levels.now e.entry.floor e.entry.count }

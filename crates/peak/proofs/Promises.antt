@@ -1,20 +1,18 @@
 -- The call `peak` in plain words: accepted exactly when all is within the limits, refused exactly with the first refusal that applies.
 -- And its answer: NaN exactly when, +infinity exactly when; this for all times. Assumes nothing.
-use Rattle.std.proofs.Common.{◌≡◌, ℕ, ◌≤◌, Bool, false, ◌⊎◌, ◌↔◌, List, [], ◌∷◌, length, get_or, pos, ◌≤ℤ◌, ◌<ℤ◌, refl, inl, inr, arith, ltb-false, le-ltb}
+use Rattle.std.proofs.Common.{◌≡◌, ℕ, ◌≤◌, Bool, false, ◌⊎◌, ◌↔◌, List, [], ◌∷◌, length, get_or, pos, ◌≤ℤ◌, ◌<ℤ◌, refl, inl, inr, arith, ltb-false, le-ltb, Ok, Err}
 use lib.Ieee.{Float, nan, inf, binary64, is_nan, of_bits}
-use Rattle.base.specs.Refusals.{first, None, First, accepts, refuses, Judged, says_of, Listed}
-use Rattle.base.specs.declared.Rule.{Rule}
-use Rattle.base.specs.declared.Rule.TheVariants.{Fine, Breaks}
+use Rattle.base.specs.Refusals.{first, NoneApplies, First, accepts, refuses, Judged, says_of, Listed, Rule, says}
 use Rattle.base.proofs.First.{judged}
 use Rattle.limits.proofs.Joined.{neither, both-not}
 use Rattle.word_calls.specs.Within.{Within}
 use Rattle.word_calls.proofs.Within.{within-fine, fine-within}
-use Rattle.peak.specs.Peak.{first_sample, end_sample, word_peak, Spanned, tests, by_rule, peak_call, says}
+use Rattle.peak.specs.Peak.{first_sample, end_sample, word_peak, Spanned, tests, by_rule, peak_call}
 use Rattle.peak.proofs.Extremes.{range-nan, nan-range, range-top, top-range}
 
 module _ (samples : List Float) (start end : Float) where
   -- no test applies exactly when all is within the limits
-  within-exactly : ((length samples ≤ 57600000) × (Within start × Within end)) ↔ None (tests samples start end)
+  within-exactly : ((length samples ≤ 57600000) × (Within start × Within end)) ↔ NoneApplies (tests samples start end)
   unfolding tests
   within-exactly = (
     λ h. (le-ltb 57600000 (length samples) h.0, (both-not (within-fine start h.1.0) (within-fine end h.1.1), tt)),
@@ -27,8 +25,8 @@ module _ (samples : List Float) (start end : Float) where
 
   -- what is said, by what the tests find
   rule-says : (r : Rule) → says (by_rule r samples start end) ≡ says_of (word_peak samples start end) r
-  rule-says Fine = refl
-  rule-says (Breaks r) = refl
+  rule-says (Ok u) = refl
+  rule-says (Err r) = refl
 
   -- ---- accepted, with the peak, exactly when the samples and both times are within the limits; refused with n exactly when n is the first that applies, of 4, 1
   pub answers : Judged ((length samples ≤ 57600000) × (Within start × Within end)) (4 ∷ 1 ∷ []) (tests samples start end) (word_peak samples start end) (says (peak_call samples start end))

@@ -4,13 +4,12 @@ use lib.Signed.{lt_z_yes}
 use lib.ListN.{length-replicate}
 use lib.Ieee.{Float, nan, fin, is_nan, le, lt, eq, mul, of_bits}
 use Rattle.base.specs.Loop.{run}
-use Rattle.base.specs.Refusals.{first, accepts, refuses}
-use Rattle.base.specs.declared.Rule.{Rule}
+use Rattle.base.specs.Refusals.{first, accepts, refuses, Rule, says}
 use Rattle.base.proofs.First.{first-here}
 use Rattle.limits.specs.Limits.{time_of}
 use Rattle.js.specs.Js.{js_max, under}
 use Rattle.frames.specs.Frames.{floor_i64, ceil_i64}
-use Rattle.peak.specs.Peak.{word_peak, tests, by_rule, peak_call, says}
+use Rattle.peak.specs.Peak.{word_peak, tests, by_rule, peak_call}
 use Rattle.peak.proofs.Promises.{accepted-exactly, nan-exactly}
 
 -- 0.5, -0.75

@@ -1,18 +1,15 @@
 -- transcriber.rs, peak: the largest magnitude of the samples that a word spans. Assumes nothing.
-use Rattle.std.specs.Prelude.{ℕ, false, ◌||◌, List, [], ◌∷◌, length, ℤ, pos, negsuc, ◌≤ℤ◌, ◌<ℤ◌, from_bits, slice_index_or, Float}
+use Rattle.base.specs.declared.Refusal.{Refusal}
+use Rattle.std.specs.Prelude.{ℕ, false, ◌||◌, List, [], ◌∷◌, length, ℤ, pos, negsuc, ◌≤ℤ◌, ◌<ℤ◌, from_bits, slice_index_or, Float, Ok, Err, Result}
 use Rattle.std.specs.Float.{nan, inf, fin, binary64}
 use Rattle.std.specs.Float.Ieee.{mul}
 use Rattle.base.specs.Whole.{min_z}
 use Rattle.base.specs.Loop.{Turn, on, range}
-use Rattle.base.specs.Refusals.{number, Test, test, first, Says, accepts, refuses}
+use Rattle.base.specs.Refusals.{Test, test, first, Rule}
 use Rattle.base.specs.declared.Refusal.TheVariants.{Counts, Time}
-use Rattle.base.specs.declared.Rule.{Rule}
-use Rattle.base.specs.declared.Rule.TheVariants.{Fine, Breaks}
 use Rattle.js.specs.Js.{js_max}
 use Rattle.frames.specs.Frames.{rate, floor_i64, ceil_i64}
 use Rattle.limits.specs.Limits.{many_samples, bad_time}
-use Rattle.peak.specs.declared.Level.{Level}
-use Rattle.peak.specs.declared.Level.TheVariants.{Accepted, Refused}
 
 -- ---- f64::abs
 abbrev pub magnitude : Float → Float
@@ -49,15 +46,10 @@ unfoldable pub tests : List Float → Float → Float → List Test
 tests samples start end = test (many_samples (length samples)) Counts ∷ test (bad_time start || bad_time end) Time ∷ []
 
 -- ---- What the call answers, by what its tests found.
-abbrev pub by_rule : Rule → List Float → Float → Float → Level
-by_rule Fine samples start end = Accepted (word_peak samples start end)
-by_rule (Breaks r) samples start end = Refused r
+abbrev pub by_rule : Rule → List Float → Float → Float → Result Float Refusal
+by_rule (Ok u) samples start end = Ok (word_peak samples start end)
+by_rule (Err r) samples start end = Err r
 
 -- ---- What the call answers.
-unfoldable pub peak_call : List Float → Float → Float → Level
+unfoldable pub peak_call : List Float → Float → Float → Result Float Refusal
 peak_call samples start end = by_rule (first (tests samples start end)) samples start end
-
--- ---- Accepted, the peak is given back; "A refusal returns its number only".
-abbrev pub says : Level → Says Float
-says (Accepted v) = accepts v
-says (Refused r) = refuses (number r)

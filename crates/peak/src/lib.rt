@@ -6,32 +6,12 @@ ghost use Rattle.std.specs.Float.{binary64};
 ghost use Rattle.base.specs.Whole.{to_nat};
 ghost use Rattle.base.specs.Loop.{range};
 ghost use Rattle.base.specs.Refusals.{first};
-ghost use Rattle.peak.specs.Peak.{magnitude as magnitude_of, peak_turn, word_peak, tests, peak_call};
+ghost use Rattle.peak.specs.Peak.{peak_turn, word_peak, tests, peak_call};
 
-use base::{Refusal, Rule};
+use base::Refusal;
 
 // Samples in a second.
 const RATE: f64 = 16000.0;
-
-// What a call answers: the level, or why it refuses.
-#[derive(Drop)]
-pub enum Level {
-    Accepted(f64),
-    Refused(Refusal),
-}
-
-// A number without its sign; NaN stays (Rust's x.abs()).
-fn magnitude(x: f64) -> f64
-    ensures { result ≡ magnitude_of x }
-{
-    if x < 0.0 {
-        return -x;
-    }
-    if x == 0.0 {
-        return 0.0;
-    }
-    x
-}
 
 // The largest magnitude of the samples from one to before another (transcriber.rs, peak).
 fn loudest(samples: &[f32], from: usize, to: usize) -> f64
@@ -39,11 +19,9 @@ fn loudest(samples: &[f32], from: usize, to: usize) -> f64
     ensures { result ≡ range (peak_turn samples.now) (pos from) (pos to) (from_bits binary64 0) }
 {
     let mut peak = 0.0;
-    let mut i = from;
-    while i < to {
+    for i in from..to {
         let s = std::num::f32_to_f64_with_nan(samples[i]);
-        peak = js::js_max(peak, magnitude(s));
-        i += 1;
+        peak = js::js_max(peak, s.abs());
     }
     peak
 }
@@ -52,14 +30,7 @@ fn loudest(samples: &[f32], from: usize, to: usize) -> f64
 fn end_index(n: usize, k: i64) -> usize
     ensures { result ≡ min n (to_nat k) }
 {
-    if k < 0 {
-        return 0;
-    }
-    let end = k as usize;
-    if end < n {
-        return end;
-    }
-    n
+    n.min(usize::try_from(k).unwrap_or(0))
 }
 
 // The largest magnitude of the samples that a word spans, for any times; 0 / 0, NaN, where it reaches before sample 0 (transcriber.rs, peak).
@@ -78,28 +49,23 @@ fn word_peak(samples: &[f32], start: f64, end: f64) -> f64
 }
 
 // The first refusal that applies, of 4 and 1.
-fn judge(samples: &[f32], start: f64, end: f64) -> Rule
+#[tactic(auto, unfolding(crate::specs::Peak::tests, base::specs::Refusals::first))]
+fn judge(samples: &[f32], start: f64, end: f64) -> Result<(), Refusal>
     ensures { result ≡ first (tests samples.now start end) }
 {
     if limits::sizes::many_samples(samples.len()) {
-        return Rule::Breaks(Refusal::Counts);
+        return Err(Refusal::Counts);
     }
-    if limits::times::bad_time(start) {
-        return Rule::Breaks(Refusal::Time);
+    if limits::times::bad_time(start) || limits::times::bad_time(end) {
+        return Err(Refusal::Time);
     }
-    if limits::times::bad_time(end) {
-        return Rule::Breaks(Refusal::Time);
-    }
-    Rule::Fine
+    Ok(())
 }
 
 // The largest magnitude of the samples that a word spans, for times within the limits (transcriber.rs, peak).
-pub fn peak(samples: &[f32], start: f64, end: f64) -> Level
+pub fn peak(samples: &[f32], start: f64, end: f64) -> Result<f64, Refusal>
     ensures { result ≡ peak_call samples.now start end }
 {
-    let rule = judge(samples, start, end);
-    match rule {
-        Rule::Fine => Level::Accepted(word_peak(samples, start, end)),
-        Rule::Breaks(r) => Level::Refused(r),
-    }
+    judge(samples, start, end)?;
+    Ok(word_peak(samples, start, end))
 }

@@ -10,11 +10,11 @@ use lib.ListN.{get_or, length, drop, length-append, get_or-append, take, replica
 use lib.Seq.{length-take-le, drop_at}
 use lib.Ieee.{nan}
 use Rattle.base.specs.Words.{Words, Spans, count, in_places, zero_f, words_in_places}
-use Rattle.base.specs.Refusals.{accepts}
+use Rattle.base.specs.Refusals.{accepts, says}
 use Rattle.word_calls.proofs.Within.{one-length}
 use Rattle.share.specs.Share.{sum}
 use Rattle.spread.specs.Spread.{inside}
-use Rattle.phrase_align.specs.PhraseAlign.{align_phrases, in_their_places, says, align_call}
+use Rattle.phrase_align.specs.PhraseAlign.{align_phrases, in_their_places, align_call}
 use Rattle.phrase_align.specs.Placed.{word_times, PlacedWord, Leaves}
 use Rattle.phrase_align.proofs.Calls.{accepted-answer}
 use Rattle.phrase_align.proofs.Facts.{placed-after, count-least}

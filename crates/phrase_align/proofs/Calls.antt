@@ -1,21 +1,19 @@
 -- The call `align_phrases` in plain words: accepted exactly when all is within the limits and the places suffice, refused exactly with the first refusal
 -- that applies, and that a refusal changes nothing; and for the code what its tests found. By reading what the tests find. Assumes nothing.
+use Rattle.std.specs.Prelude.{Ok, Err}
 use Prim.Native.Nat.{ℕ}
 use mathlib.Core.Path.{◌≡◌, refl, sym, ap, ◌∙◌}
 use mathlib.Core.Logic.{◌↔◌}
 use mathlib.Core.List.{List, [], ◌∷◌}
 use lib.ListN.{length}
 use Rattle.base.specs.Words.{Words, Spans, count}
-use Rattle.base.specs.Refusals.{None, First, Says, accepts, refuses, Judged, says_of}
+use Rattle.base.specs.Refusals.{NoneApplies, First, Says, accepts, refuses, Judged, says_of, Rule, says}
 use Rattle.base.specs.declared.Refusal.{Refusal}
-use Rattle.base.specs.declared.Rule.{Rule}
-use Rattle.base.specs.declared.Rule.TheVariants.{Fine, Breaks}
 use Rattle.base.proofs.First.{apart, none-fine, judged}
 use Rattle.limits.specs.Order.{in_order, chain}
 use Rattle.word_calls.specs.Calls.{spans_applies, spans_rule}
 use Rattle.word_calls.proofs.Moved.{within-spans, listed-spans, spans-fine}
-use Rattle.phrase_align.specs.PhraseAlign.{align_phrases, PlacesWithin, says, Output, output, accepted, by_rule, align_call}
-use Rattle.phrase_align.specs.declared.Answer.TheVariants.{Refused}
+use Rattle.phrase_align.specs.PhraseAlign.{align_phrases, PlacesWithin, Output, output, accepted, by_rule, align_call}
 
 module _ (ws : Words) (spans : Spans) (phrases : List ℕ) where
   abbrev rule : Rule
@@ -27,26 +25,26 @@ module _ (ws : Words) (spans : Spans) (phrases : List ℕ) where
 
   -- what is said, by what the tests find
   rule-says : (r : Rule) → says (by_rule r ws spans phrases).answer ≡ says_of (count (align_phrases ws spans).words) r
-  rule-says Fine = refl
-  rule-says (Breaks why) = refl
+  rule-says (Ok u) = refl
+  rule-says (Err why) = refl
 
-  said-fine : (n : ℕ) → says (align_call ws spans phrases).answer ≡ accepts n → rule ≡ Fine
+  said-fine : (n : ℕ) → says (align_call ws spans phrases).answer ≡ accepts n → rule ≡ Ok tt
   unfolding align_call
   said-fine n = go rule where
-    go : (r : Rule) → says (by_rule r ws spans phrases).answer ≡ accepts n → r ≡ Fine
-    go Fine h = refl
-    go (Breaks why) h = apart (sym h)
+    go : (r : Rule) → says (by_rule r ws spans phrases).answer ≡ accepts n → r ≡ Ok tt
+    go (Ok u) h = refl
+    go (Err why) h = apart (sym h)
 
   -- no test applies exactly when all is within the limits
-  within : rule ≡ Fine → PlacesWithin ws spans phrases
+  within : rule ≡ Ok tt → PlacesWithin ws spans phrases
   within h = let w = spans-fine ws spans (length phrases) (count ws) h in record { words-within = w.0; spans-within = w.1.0; enough = w.1.1 }
 
-  within-exactly : PlacesWithin ws spans phrases ↔ None (in_order (spans_applies ws spans (length phrases) (count ws)))
+  within-exactly : PlacesWithin ws spans phrases ↔ NoneApplies (in_order (spans_applies ws spans (length phrases) (count ws)))
   within-exactly =
       let e = within-spans ws spans (length phrases) (count ws) in
       (λ w. e.0 (w.words-within, (w.spans-within, w.enough)), λ n. (let w = e.1 n in record { words-within = w.0; spans-within = w.1.0; enough = w.1.1 }))
 
-  fine : PlacesWithin ws spans phrases → rule ≡ Fine
+  fine : PlacesWithin ws spans phrases → rule ≡ Ok tt
   unfolding spans_rule chain
   fine w = none-fine (in_order (spans_applies ws spans (length phrases) (count ws))) (within-exactly.0 w)
 
@@ -79,13 +77,13 @@ module _ (ws : Words) (spans : Spans) (phrases : List ℕ) where
   unfolding align_call
   refusal-keeps n = go rule where
     go : (r : Rule) → says (by_rule r ws spans phrases).answer ≡ refuses n → ((by_rule r ws spans phrases).words ≡ ws) × ((by_rule r ws spans phrases).phrases ≡ phrases)
-    go Fine h = apart h
-    go (Breaks why) h = (refl, refl)
+    go (Ok u) h = apart h
+    go (Err why) h = (refl, refl)
 
   -- for the code
   module _ {found : Rule} (is : found ≡ rule) where
-    pub refused-made : (why : Refusal) → found ≡ Breaks why → output (Refused why) ws phrases ≡ align_call ws spans phrases
+    pub refused-made : (why : Refusal) → found ≡ Err why → output (Err why) ws phrases ≡ align_call ws spans phrases
     refused-made why e = sym (call_by (sym is ∙ e))
 
-    pub accepted-made : {o : Output} → found ≡ Fine → o ≡ accepted (align_phrases ws spans) (count ws) phrases → o ≡ align_call ws spans phrases
+    pub accepted-made : {o : Output} → found ≡ Ok tt → o ≡ accepted (align_phrases ws spans) (count ws) phrases → o ≡ align_call ws spans phrases
     accepted-made f m = m ∙ sym (call_by (sym is ∙ f))

@@ -1,16 +1,13 @@
 -- phrase_align.rs, align_phrases after alignment, line by line, and document 01, "Placing in phrases". Assumes nothing.
-use Rattle.std.specs.Prelude.{ℕ, ◌+◌, ◌≤◌, min, cond, List, [], ◌++◌, eqb, get_or, length, drop, replicate}
+use Rattle.base.specs.declared.Refusal.{Refusal}
+use Rattle.std.specs.Prelude.{ℕ, ◌+◌, ◌≤◌, min, cond, List, [], ◌++◌, eqb, get_or, length, drop, replicate, Ok, Err, Result}
 use Rattle.std.specs.Float.{nan}
 use Rattle.base.specs.Loop.{each}
 use Rattle.base.specs.Words.{Words, words, Spans, edges, with_edges, count, part, in_places, words_in_places}
-use Rattle.base.specs.Refusals.{number, Says, accepts, refuses}
+use Rattle.base.specs.Refusals.{Rule}
 use Rattle.spread.specs.Spread.{place_group}
-use Rattle.base.specs.declared.Rule.{Rule}
-use Rattle.base.specs.declared.Rule.TheVariants.{Fine, Breaks}
 use Rattle.word_calls.specs.Within.{WordsWithin, SpansWithin}
 use Rattle.word_calls.specs.Calls.{spans_rule}
-use Rattle.phrase_align.specs.declared.Answer.{Answer}
-use Rattle.phrase_align.specs.declared.Answer.TheVariants.{Accepted, Refused}
 
 -- ======== phrase_align.rs: the part of `align_phrases` after alignment, line by line, and what document 01, "Placing in phrases", adds to it.
 
@@ -64,26 +61,21 @@ pub record PlacesWithin (ws : Words) (spans : Spans) (phrases : List ℕ) : Type
   pub spans-within : SpansWithin spans
   pub enough : count ws ≤ length phrases
 
--- ---- "The new count is given back"; "A refusal returns its number only".
-abbrev pub says : Answer → Says ℕ
-says (Accepted n) = accepts n
-says (Refused r) = refuses (number r)
-
 pub record Output : Type 0 where
-  pub answer : Answer
+  pub answer : Result ℕ Refusal
   pub words : Words
   pub phrases : List ℕ
 
-abbrev pub output : Answer → Words → List ℕ → Output
+abbrev pub output : Result ℕ Refusal → Words → List ℕ → Output
 output a ws phrases = record { answer = a; words = ws; phrases = phrases }
 
 abbrev pub accepted : Placing → ℕ → List ℕ → Output
 accepted out places phrases =
-    let left = in_their_places out places phrases in output (Accepted (count out.words)) left.words left.phrases
+    let left = in_their_places out places phrases in output (Ok (count out.words)) left.words left.phrases
 
 abbrev pub by_rule : Rule → Words → Spans → List ℕ → Output
-by_rule Fine ws spans phrases = accepted (align_phrases ws spans) (count ws) phrases
-by_rule (Breaks r) ws spans phrases = output (Refused r) ws phrases
+by_rule (Ok u) ws spans phrases = accepted (align_phrases ws spans) (count ws) phrases
+by_rule (Err r) ws spans phrases = output (Err r) ws phrases
 
 -- ---- Refusals 3, 4, 1, 2, 6, in this order.
 unfoldable pub align_call : Words → Spans → List ℕ → Output

@@ -5,18 +5,10 @@ ghost use Rattle.std.specs.Prelude.{◌≡◌, ◌≤◌, length};
 ghost use Rattle.base.specs.Words.{words, spans};
 ghost use Rattle.base.specs.Parts.{OneLength};
 ghost use Rattle.phrase_align.specs.PhraseAlign.{align_phrases, output, accepted, align_call};
-ghost use Rattle.phrase_align.specs.declared.Answer.TheVariants.{Accepted};
 
-use base::{Refusal, Rule};
+use base::Refusal;
 
 pub mod place;
-
-// What the call answers: the words placed, or why it refuses.
-#[derive(Drop)]
-pub enum Answer {
-    Accepted(usize),
-    Refused(Refusal),
-}
 
 // Places words in the spans of their phrases, and makes the places of surplus words zero (phrase_align.rs, align_phrases); nothing is checked.
 pub fn place_words(
@@ -38,7 +30,7 @@ pub fn place_words(
     ensures { let before = words starts.old ends.old letters.old units.old keys.old in
         let after = words starts.new ends.new letters.new units.new keys.new in
         let all_spans = spans span_starts.now span_ends.now counts.now in
-        output (Accepted result) after phrases.new
+        output (Ok result) after phrases.new
         ≡ accepted (align_phrases before all_spans) (length keys.old) phrases.old }
 {
     let at = place::place_spans(
@@ -66,13 +58,13 @@ pub fn align_phrases(
     span_ends: &[f64],
     counts: &[u32],
     phrases: &mut [u32],
-) -> Answer
+) -> Result<usize, Refusal>
     ensures { let before = words starts.old ends.old letters.old units.old keys.old in
         let after = words starts.new ends.new letters.new units.new keys.new in
         let all_spans = spans span_starts.now span_ends.now counts.now in
         output result after phrases.new ≡ align_call before all_spans phrases.old }
 {
-    let rule = word_calls::spans_rule(
+    word_calls::spans_rule(
         starts,
         ends,
         letters,
@@ -83,22 +75,17 @@ pub fn align_phrases(
         counts,
         phrases.len(),
         keys.len(),
+    )?;
+    let n = place_words(
+        starts,
+        ends,
+        letters,
+        units,
+        keys,
+        phrases,
+        span_starts,
+        span_ends,
+        counts,
     );
-    match rule {
-        Rule::Breaks(why) => Answer::Refused(why),
-        Rule::Fine => {
-            let n = place_words(
-                starts,
-                ends,
-                letters,
-                units,
-                keys,
-                phrases,
-                span_starts,
-                span_ends,
-                counts,
-            );
-            Answer::Accepted(n)
-        }
-    }
+    Ok(n)
 }

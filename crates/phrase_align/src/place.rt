@@ -8,11 +8,7 @@ pub fn number_words(phrases: &mut [u32], a: usize, e: usize, p: u32)
     requires { (a ≤ e) × (e ≤ length phrases.old) }
     ensures { phrases.new ≡ with_part a e phrases.old (replicate (e - a) p) }
 {
-    let mut i = a;
-    while i < e {
-        phrases[i] = p;
-        i += 1;
-    }
+    phrases[a..e].fill(p);
 }
 
 // Places words a to e in span number p.
@@ -60,9 +56,8 @@ pub fn place_spans(
         × (result ≤ length letters.now) }
 {
     let mut at = 0;
-    let mut p = 0;
-    while p < counts.len() {
-        let e = base::least(letters.len(), at + counts[p] as usize);
+    for p in 0..counts.len() {
+        let e = letters.len().min(at + counts[p] as usize);
         place_span(
             starts,
             ends,
@@ -75,7 +70,6 @@ pub fn place_spans(
             p as u32,
         );
         at = e;
-        p += 1;
     }
     at
 }

@@ -1,6 +1,7 @@
 -- The public call in plain words: it accepts exactly when all is within the limits, refuses exactly with the first refusal that applies, of 4, 7, 6, never with 8, and a refusal
 -- changes no place. What an accepted call leaves has every cut 1,203 frames or more beyond its piece's start. By reading what each check found. With one computed input for each
 -- answer, and one of NaN levels. Assumes nothing.
+use Rattle.std.specs.Prelude.{Ok, Err}
 use Prim.Native.Nat.{ℕ, ◌/◌, ◌≤◌, ◌<◌}
 use mathlib.Core.Bool.{not, ◌||◌}
 use mathlib.Core.List.{List, [], ◌∷◌}
@@ -12,15 +13,12 @@ use lib.Dec.{eqb}
 use lib.ListN.{length, replicate, length-replicate}
 use lib.Ieee.{Float, nan}
 use Rattle.base.specs.Loop.{run}
-use Rattle.base.specs.Refusals.{Test, test, first, None, First, Says, accepts, refuses, Among, Judged, says_of, Listed}
+use Rattle.base.specs.Refusals.{Test, test, first, NoneApplies, First, Says, accepts, refuses, Among, Judged, says_of, Listed, Rule, says}
 use Rattle.base.specs.declared.Refusal.TheVariants.{Counts, Places, Levels, Cut}
-use Rattle.base.specs.declared.Rule.{Rule}
-use Rattle.base.specs.declared.Rule.TheVariants.{Fine, Breaks}
 use Rattle.base.proofs.First.{apart, none-fine, fine-none, judged, first-exactly}
 use Rattle.limits.specs.Limits.{many_samples, other_levels, few_places}
 use Rattle.envelope.specs.Envelope.{zero_f, quiet_row}
-use Rattle.pieces.specs.declared.Answer.TheVariants.{Accepted, Refused}
-use Rattle.pieces.specs.Pieces.{Piece, pieces, piece_count, need, piece_turn, walked, Ready, says, tests, Output, output, accepted, by_rule, pieces_call, CutsApart}
+use Rattle.pieces.specs.Pieces.{Piece, pieces, piece_count, need, piece_turn, walked, Ready, tests, Output, output, accepted, by_rule, pieces_call, CutsApart}
 use Rattle.pieces.proofs.Cuts.{nan-levels-cut}
 use Rattle.pieces.proofs.Walk.{pieces-left, left_far, left_near, never_stuck, pieces-over-apart, piece_count-is}
 use Rattle.pieces.proofs.Passes.{quiet-length}
@@ -37,7 +35,7 @@ module _ (levels : List Float) (floor : Float) (count : ℕ) (s e : List ℕ) wh
   rule = first (tests levels floor count (length s) (length e))
 
   -- no test applies exactly when all is within the limits
-  within-exactly : Ready (length levels) count (length s) (length e) ↔ None (tests levels floor count (length s) (length e))
+  within-exactly : Ready (length levels) count (length s) (length e) ↔ NoneApplies (tests levels floor count (length s) (length e))
   within-exactly = (
     λ r. fine-none (tests levels floor count (length s) (length e)) (ready-fine levels floor count (length s) (length e) r),
     λ n. fine-ready levels floor count (length s) (length e) (none-fine (tests levels floor count (length s) (length e)) n),
@@ -49,15 +47,15 @@ module _ (levels : List Float) (floor : Float) (count : ℕ) (s e : List ℕ) wh
 
   -- what is said, by what the checks find
   rule-says : (r : Rule) → says (by_rule r found s e).answer ≡ says_of (length found) r
-  rule-says Fine = refl
-  rule-says (Breaks q) = refl
+  rule-says (Ok u) = refl
+  rule-says (Err q) = refl
 
-  said-fine : (n : ℕ) → says call.answer ≡ accepts n → rule ≡ Fine
+  said-fine : (n : ℕ) → says call.answer ≡ accepts n → rule ≡ Ok tt
   unfolding pieces_call
   said-fine n = go rule where
-    go : (r : Rule) → says (by_rule r found s e).answer ≡ accepts n → r ≡ Fine
-    go Fine h = refl
-    go (Breaks q) h = apart (sym h)
+    go : (r : Rule) → says (by_rule r found s e).answer ≡ accepts n → r ≡ Ok tt
+    go (Ok u) h = refl
+    go (Err q) h = apart (sym h)
 
   -- ---- Accepted, with the number of pieces, exactly when all is within the limits; refused with n exactly when n is the first that applies, of 4, 7, 6.
   pub answers : Judged (Ready (length levels) count (length s) (length e)) (4 ∷ 7 ∷ 6 ∷ []) (tests levels floor count (length s) (length e)) (length found) (says call.answer)
@@ -144,8 +142,8 @@ module _ (levels : List Float) (floor : Float) (count : ℕ) (s e : List ℕ) wh
   unfolding pieces_call
   refusal-keeps n = go rule where
     go : (r : Rule) → says (by_rule r found s e).answer ≡ refuses n → ((by_rule r found s e).starts ≡ s) × ((by_rule r found s e).ends ≡ e)
-    go Fine h = apart h
-    go (Breaks q) h = (refl, refl)
+    go (Ok u) h = apart h
+    go (Err q) h = (refl, refl)
 
   -- ---- 8 is tested last, and cannot arise.
   pub never-8 : says call.answer ≡ refuses 8 → ⊥
@@ -157,19 +155,19 @@ module _ (levels : List Float) (floor : Float) (count : ℕ) (s e : List ℕ) wh
     go (inr (inr (inr e))) = e
 
 -- ---- One input for each answer. A frame of silence and 5 samples more: one piece, and a place that stays.
-accepts-one : pieces_call (zero_f ∷ []) zero_f 165 (7 ∷ 8 ∷ []) (7 ∷ 8 ∷ []) ≡ output (Accepted 1) (0 ∷ 8 ∷ []) (165 ∷ 8 ∷ [])
+accepts-one : pieces_call (zero_f ∷ []) zero_f 165 (7 ∷ 8 ∷ []) (7 ∷ 8 ∷ []) ≡ output (Ok 1) (0 ∷ 8 ∷ []) (165 ∷ 8 ∷ [])
 unfolding pieces_call first tests need walked pieces piece_turn run quiet_row
 accepts-one = refl
 
-refuses-4 : pieces_call [] zero_f 57600001 (7 ∷ []) (7 ∷ []) ≡ output (Refused Counts) (7 ∷ []) (7 ∷ [])
+refuses-4 : pieces_call [] zero_f 57600001 (7 ∷ []) (7 ∷ []) ≡ output (Err Counts) (7 ∷ []) (7 ∷ [])
 unfolding pieces_call first tests
 refuses-4 = refl
 
-refuses-7 : pieces_call [] zero_f 160 (7 ∷ []) (7 ∷ []) ≡ output (Refused Levels) (7 ∷ []) (7 ∷ [])
+refuses-7 : pieces_call [] zero_f 160 (7 ∷ []) (7 ∷ []) ≡ output (Err Levels) (7 ∷ []) (7 ∷ [])
 unfolding pieces_call first tests
 refuses-7 = refl
 
-refuses-6 : pieces_call (zero_f ∷ []) zero_f 160 (7 ∷ []) [] ≡ output (Refused Places) (7 ∷ []) []
+refuses-6 : pieces_call (zero_f ∷ []) zero_f 160 (7 ∷ []) [] ≡ output (Err Places) (7 ∷ []) []
 unfolding pieces_call first tests need
 refuses-6 = refl
 
@@ -181,7 +179,7 @@ nan-pieces floor =
     pieces-left row 320160 ∙ left_far row 320160 0 (omega (arith, many))
     ∙ rw (nan-levels-cut floor) (ap (λ (ps : List Piece). record { start = 0; end = 320000 } ∷ ps) (left_near row 320160 2000 (omega (arith, many)) (omega (arith, many))))
 
-nan-levels : (floor : Float) → pieces_call (replicate 2001 nan) floor 320160 (7 ∷ 8 ∷ 9 ∷ []) (7 ∷ 8 ∷ 9 ∷ []) ≡ output (Accepted 2) (0 ∷ 320000 ∷ 9 ∷ []) (320000 ∷ 320160 ∷ 9 ∷ [])
+nan-levels : (floor : Float) → pieces_call (replicate 2001 nan) floor 320160 (7 ∷ 8 ∷ 9 ∷ []) (7 ∷ 8 ∷ 9 ∷ []) ≡ output (Ok 2) (0 ∷ 320000 ∷ 9 ∷ []) (320000 ∷ 320160 ∷ 9 ∷ [])
 unfolding need
 nan-levels floor =
     accepted-leaves (replicate 2001 nan) floor 320160 (7 ∷ 8 ∷ 9 ∷ []) (7 ∷ 8 ∷ 9 ∷ [])

@@ -1,5 +1,6 @@
 -- The checks in their order, and the call by what they find. A cut is always beyond its piece's start, so that the test of refusal 8 never applies.
 -- Assumes nothing.
+use Rattle.std.specs.Prelude.{Ok, Err}
 use Prim.Native.Nat.{ℕ, ◌/◌, ◌<◌}
 use mathlib.Core.Bool.{Bool, true, false, ◌||◌, true≢false}
 use mathlib.Core.List.{List}
@@ -10,15 +11,12 @@ use borrow.Author.Tests.{ltb-true, ltb-false, lt-ltb, le-ltb, eqb-true, eq-eqb, 
 use lib.Dec.{eqb, ltb}
 use lib.ListN.{length}
 use lib.Ieee.{Float}
-use Rattle.base.specs.Refusals.{first, None}
+use Rattle.base.specs.Refusals.{first, NoneApplies, Rule}
 use Rattle.base.specs.declared.Refusal.{Refusal}
 use Rattle.base.specs.declared.Refusal.TheVariants.{Counts, Levels, Places}
-use Rattle.base.specs.declared.Rule.{Rule}
-use Rattle.base.specs.declared.Rule.TheVariants.{Fine, Breaks}
 use Rattle.base.proofs.First.{fine-none, none-fine}
 use Rattle.limits.specs.Limits.{many_samples, other_levels, few_places}
 use Rattle.envelope.specs.Envelope.{quiet_row}
-use Rattle.pieces.specs.declared.Answer.TheVariants.{Accepted, Refused}
 use Rattle.pieces.specs.Pieces.{pieces, piece_count, need, tests, Output, output, accepted, pieces_call, Ready}
 use Rattle.pieces.specs.Parts.{starts_over, ends_over}
 use Rattle.pieces.proofs.Walk.{never_stuck, piece_count-is}
@@ -51,29 +49,29 @@ short-exactly starts ends n = (there, back (ltb starts n) (ltb ends n) refl refl
 -- ---- What judge finds, by the results of its tests.
 module _ (levels : List Float) (floor : Float) (count starts ends : ℕ) where
   module _ {many : Bool} (samples : many ≡ many_samples count) where
-    pub samples-break : many ≡ true → Breaks Counts ≡ first (tests levels floor count starts ends)
+    pub samples-break : many ≡ true → Err Counts ≡ first (tests levels floor count starts ends)
     unfolding first tests
     samples-break e = rw (← samples, e)
 
     module _ {other : Bool} (few : many ≡ false) (frames : other ≡ other_levels (length levels) count) where
-      pub levels-break : other ≡ true → Breaks Levels ≡ first (tests levels floor count starts ends)
+      pub levels-break : other ≡ true → Err Levels ≡ first (tests levels floor count starts ends)
       unfolding first tests
       levels-break e = rw (← samples, few, ← frames, e)
 
       module _ {short : Bool} (all : other ≡ false) (places : short ≡ (few_places starts (need (length levels)) || few_places ends (need (length levels)))) where
-        pub places-break : short ≡ true → Breaks Places ≡ first (tests levels floor count starts ends)
+        pub places-break : short ≡ true → Err Places ≡ first (tests levels floor count starts ends)
         unfolding first tests
         places-break e = rw (← samples, few, ← frames, all, ← places, e)
 
-        pub none-break : short ≡ false → Fine ≡ first (tests levels floor count starts ends)
+        pub none-break : short ≡ false → (Ok tt) ≡ first (tests levels floor count starts ends)
         unfolding first tests
         none-break e = rw (← samples, few, ← frames, all, ← places, e, never_stuck (quiet_row floor levels) count)
 
   -- ---- No refusal applies exactly when all is ready.
-  pub fine-ready : first (tests levels floor count starts ends) ≡ Fine → Ready (length levels) count starts ends
+  pub fine-ready : first (tests levels floor count starts ends) ≡ Ok tt → Ready (length levels) count starts ends
   unfolding tests
   fine-ready e = ready (fine-none (tests levels floor count starts ends) e) where
-    ready : None (tests levels floor count starts ends) → Ready (length levels) count starts ends
+    ready : NoneApplies (tests levels floor count starts ends) → Ready (length levels) count starts ends
     ready n = record {
       few = ltb-false 57600000 count n.0;
       all = eqb-true (length levels) (count / 160) (not-false (eqb (length levels) (count / 160)) n.1.0);
@@ -81,7 +79,7 @@ module _ (levels : List Float) (floor : Float) (count starts ends : ℕ) where
       to = ltb-false ends (need (length levels)) (or-second (ltb starts (need (length levels))) (ltb ends (need (length levels))) n.1.1.0);
     }
 
-  pub ready-fine : Ready (length levels) count starts ends → first (tests levels floor count starts ends) ≡ Fine
+  pub ready-fine : Ready (length levels) count starts ends → first (tests levels floor count starts ends) ≡ Ok tt
   unfolding tests
   ready-fine r =
       none-fine (tests levels floor count starts ends) (
@@ -98,16 +96,16 @@ module _ (levels : List Float) (floor : Float) (count starts ends : ℕ) where
 -- ---- The call.
 module _ (levels : List Float) (floor : Float) (count : ℕ) (s e : List ℕ) where
   pub accept-made : {n : ℕ} {s' e' : List ℕ} → n ≡ piece_count (quiet_row floor levels) → s' ≡ starts_over (pieces (quiet_row floor levels) count) s
-      → e' ≡ ends_over (pieces (quiet_row floor levels) count) e → output (Accepted n) s' e' ≡ accepted (pieces (quiet_row floor levels) count) s e
+      → e' ≡ ends_over (pieces (quiet_row floor levels) count) e → output (Ok n) s' e' ≡ accepted (pieces (quiet_row floor levels) count) s e
   unfolding starts_over ends_over
   accept-made p q r = rw (p, q, r, ← piece_count-is (quiet_row floor levels) count)
 
-  pub refused-made : {rule : Rule} (why : Refusal) → rule ≡ first (tests levels floor count (length s) (length e)) → rule ≡ Breaks why
-      → output (Refused why) s e ≡ pieces_call levels floor count s e
+  pub refused-made : {rule : Rule} (why : Refusal) → rule ≡ first (tests levels floor count (length s) (length e)) → rule ≡ Err why
+      → output (Err why) s e ≡ pieces_call levels floor count s e
   unfolding pieces_call
   refused-made why p q = rw (← p, q)
 
-  pub call-made : {rule : Rule} {o : Output} → rule ≡ first (tests levels floor count (length s) (length e)) → rule ≡ Fine
+  pub call-made : {rule : Rule} {o : Output} → rule ≡ first (tests levels floor count (length s) (length e)) → rule ≡ Ok tt
       → o ≡ accepted (pieces (quiet_row floor levels) count) s e → o ≡ pieces_call levels floor count s e
   unfolding pieces_call
   call-made p q r = rw (← p, q) r

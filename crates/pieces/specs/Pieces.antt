@@ -1,14 +1,11 @@
 -- pieces.rs, and document 01's "Pieces". A `row` says which frames are quiet. Assumes nothing.
-use Rattle.std.specs.Prelude.{ℕ, ◌+◌, ◌-◌, ◌/◌, ◌*◌, ◌<◌, ◌≤◌, ◌≡◌, Bool, true, false, cond, ◌&&◌, ◌||◌, List, [], ◌∷◌, ◌++◌, map, get_or, length, drop, leb, ltb, eqb, ℤ, pos, Float}
+use Rattle.base.specs.declared.Refusal.{Refusal}
+use Rattle.std.specs.Prelude.{ℕ, ◌+◌, ◌-◌, ◌/◌, ◌*◌, ◌<◌, ◌≤◌, ◌≡◌, Bool, true, false, cond, ◌&&◌, ◌||◌, List, [], ◌∷◌, ◌++◌, map, get_or, length, drop, leb, ltb, eqb, ℤ, pos, Float, Ok, Err, Result}
 use Rattle.base.specs.Loop.{each, run, Turn, on, out}
-use Rattle.base.specs.Refusals.{number, Test, test, first, Says, accepts, refuses}
+use Rattle.base.specs.Refusals.{Test, test, first, Rule}
 use Rattle.base.specs.declared.Refusal.TheVariants.{Counts, Levels, Places, Cut}
-use Rattle.base.specs.declared.Rule.{Rule}
-use Rattle.base.specs.declared.Rule.TheVariants.{Fine, Breaks}
 use Rattle.limits.specs.Limits.{many_samples, other_levels, few_places}
 use Rattle.envelope.specs.Envelope.{hop, quiet_row}
-use Rattle.pieces.specs.declared.Answer.{Answer}
-use Rattle.pieces.specs.declared.Answer.TheVariants.{Accepted, Refused}
 
 -- ======== The search for a cut.
 
@@ -108,18 +105,13 @@ pub record Ready (frames count starts ends : ℕ) : Type 0 where
   pub from : need frames ≤ starts
   pub to : need frames ≤ ends
 
--- ---- Accepted, the number of pieces is given back; "A refusal returns its number only".
-abbrev pub says : Answer → Says ℕ
-says (Accepted n) = accepts n
-says (Refused r) = refuses (number r)
-
 -- ---- The call: refusals 4, 7, 6, 8, in this order; what is given back and what the lent places hold afterwards.
 pub record Output : Type 0 where
-  pub answer : Answer
+  pub answer : Result ℕ Refusal
   pub starts : List ℕ
   pub ends : List ℕ
 
-abbrev pub output : Answer → List ℕ → List ℕ → Output
+abbrev pub output : Result ℕ Refusal → List ℕ → List ℕ → Output
 output a s e = record { answer = a; starts = s; ends = e }
 
 unfoldable pub tests : List Float → Float → ℕ → ℕ → ℕ → List Test
@@ -135,11 +127,11 @@ abbrev pub over : List ℕ → List ℕ → List ℕ
 over found places = found ++ drop (length found) places
 
 abbrev pub accepted : List Piece → List ℕ → List ℕ → Output
-accepted ps s e = output (Accepted (length ps)) (over (map (λ p. p.start) ps) s) (over (map (λ p. p.end) ps) e)
+accepted ps s e = output (Ok (length ps)) (over (map (λ p. p.start) ps) s) (over (map (λ p. p.end) ps) e)
 
 abbrev pub by_rule : Rule → List Piece → List ℕ → List ℕ → Output
-by_rule Fine ps s e = accepted ps s e
-by_rule (Breaks r) ps s e = output (Refused r) s e
+by_rule (Ok u) ps s e = accepted ps s e
+by_rule (Err r) ps s e = output (Err r) s e
 
 unfoldable pub pieces_call : List Float → Float → ℕ → List ℕ → List ℕ → Output
 pieces_call levels floor count s e = by_rule (first (tests levels floor count (length s) (length e))) (pieces (quiet_row floor levels) count) s e

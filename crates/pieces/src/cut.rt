@@ -32,14 +32,12 @@ fn quiet_from(part: &[f64], floor: f64, from: usize, to: usize) -> usize
     requires { (length part.now ≡ 800) × ((from ≤ to) × (to ≤ 800)) }
     ensures { (result ≡ quiet_start (quiet_row floor part.now) from to) × ((from ≤ result) × (result ≤ to)) }
 {
-    let mut k = to;
-    while from < k {
-        if !is_quiet(part[k - 1], floor) {
-            return k;
+    for k in (from..to).rev() {
+        if !is_quiet(part[k], floor) {
+            return k + 1;
         }
-        k -= 1;
     }
-    k
+    from
 }
 
 // Where the quiet frames from `from` on end.
@@ -47,14 +45,12 @@ fn quiet_to(part: &[f64], floor: f64, from: usize) -> usize
     requires { (length part.now ≡ 800) × (from ≤ 800) }
     ensures { (result ≡ quiet_end (quiet_row floor part.now) from) × ((from ≤ result) × (result ≤ 800)) }
 {
-    let mut k = from;
-    while k < SEARCH_FRAMES {
+    for k in from..SEARCH_FRAMES {
         if !is_quiet(part[k], floor) {
             return k;
         }
-        k += 1;
     }
-    k
+    SEARCH_FRAMES
 }
 
 // The search, one step on: it looks at one frame more than the longest run has, the last of them first; it goes on behind the first that

@@ -8,7 +8,7 @@ ghost use Rattle.envelope.specs.Envelope.{quiet_row};
 ghost use Rattle.pieces.specs.Pieces.{cut, pieces, piece_count, need, tests, output, accepted, pieces_call, Ready};
 ghost use Rattle.pieces.specs.Parts.{starts_over, ends_over};
 
-use base::{Refusal, Rule};
+use base::Refusal;
 
 pub mod cut;
 pub mod view;
@@ -17,13 +17,6 @@ pub mod view;
 const MAX_FRAMES: usize = 2000;
 // Samples in a frame.
 const HOP: usize = 160;
-
-// What the call answers: the number of pieces, or why it refuses.
-#[derive(Drop)]
-pub enum Answer {
-    Accepted(usize),
-    Refused(Refusal),
-}
 
 // The number of pieces.
 pub fn count_pieces(levels: &[f64], floor: f64) -> usize
@@ -71,13 +64,11 @@ pub fn write_pieces(
 }
 
 // The places that the pieces of so many frames need.
+#[tactic(auto, unfolding(crate::specs::Pieces::need))]
 pub fn places_needed(frames: usize) -> usize
     ensures { result ≡ need frames }
 {
-    if frames == 0 {
-        return 0;
-    }
-    (frames - 1) / 1203 + 1
+    frames.div_ceil(1203)
 }
 
 // Too few places in either list (refusal 6).
@@ -85,26 +76,29 @@ fn short_of_places(frames: usize, starts: usize, ends: usize) -> bool
     ensures { result ≡ (few_places starts (need frames) || few_places ends (need frames)) }
 {
     let places = places_needed(frames);
-    if limits::sizes::few_places(starts, places) {
-        return true;
-    }
-    limits::sizes::few_places(ends, places)
+    limits::sizes::few_places(starts, places) || limits::sizes::few_places(ends, places)
 }
 
 // The first refusal that applies, of 4, 7, 6; a cut is always beyond its piece's start, so that 8 never does.
-fn judge(levels: &[f64], floor: f64, count: usize, starts: &[usize], ends: &[usize]) -> Rule
+fn judge(
+    levels: &[f64],
+    floor: f64,
+    count: usize,
+    starts: &[usize],
+    ends: &[usize],
+) -> Result<(), Refusal>
     ensures { result ≡ first (tests levels.now floor count (length starts.now) (length ends.now)) }
 {
     if limits::sizes::many_samples(count) {
-        return Rule::Breaks(Refusal::Counts);
+        return Err(Refusal::Counts);
     }
     if limits::sizes::other_levels(levels.len(), count) {
-        return Rule::Breaks(Refusal::Levels);
+        return Err(Refusal::Levels);
     }
     if short_of_places(levels.len(), starts.len(), ends.len()) {
-        return Rule::Breaks(Refusal::Places);
+        return Err(Refusal::Places);
     }
-    Rule::Fine
+    Ok(())
 }
 
 // The pieces in their places, and their number.
@@ -114,15 +108,15 @@ fn accept(
     count: usize,
     starts: &mut [usize],
     ends: &mut [usize],
-) -> Answer
+) -> usize
     requires { Ready (length levels.now) count (length starts.old) (length ends.old) }
     ensures { let quiet_frames = quiet_row floor levels.now in
-        output result starts.new ends.new
+        output (Ok result) starts.new ends.new
         ≡ accepted (pieces quiet_frames count) starts.old ends.old }
 {
     let n = count_pieces(levels, floor);
     write_pieces(levels, floor, count, starts, ends);
-    Answer::Accepted(n)
+    n
 }
 
 // The pieces of a recording of `count` samples, from its levels and their floor (pieces.rs, pieces).
@@ -132,13 +126,10 @@ pub fn pieces_at(
     count: usize,
     starts: &mut [usize],
     ends: &mut [usize],
-) -> Answer
+) -> Result<usize, Refusal>
     ensures { output result starts.new ends.new
         ≡ pieces_call levels.now floor count starts.old ends.old }
 {
-    let rule = judge(levels, floor, count, starts, ends);
-    match rule {
-        Rule::Breaks(why) => Answer::Refused(why),
-        Rule::Fine => accept(levels, floor, count, starts, ends),
-    }
+    judge(levels, floor, count, starts, ends)?;
+    Ok(accept(levels, floor, count, starts, ends))
 }

@@ -4,14 +4,13 @@ use mathlib.Core.Logic.{◌⊎◌, inl, inr}
 use Prim.Native.Nat.{ℕ, zero, suc, ◌+◌, ◌-◌, ◌*◌, ◌/◌, ◌%◌, ◌^◌, ◌≤◌, ◌<◌}
 use native.Mathlib.Nat.{mul_assoc, mul-pos, eq-or-lt_of_le, pow-succ'}
 use native.Mathlib.Omega.{arith}
-use mathlib.Core.Bool.{Bool, true, false, not, cond}
+use mathlib.Core.Bool.{Bool, true, false, not, cond, true≢false}
 use lib.Dec.{T, leb, eqb, le→leb}
 use lib.Pow.{pow-add, pow_pos}
 use lib.Arith.{le→nltb}
-use lib.Ieee.{Float, nan, inf, Format, binary64, prec, low, odd, div, ne, of_fields, of_bits, nan_bits}
+use lib.Ieee.{Float, nan, inf, fin, Format, binary64, prec, low, odd, div, is_nan, of_fields, of_bits, nan_bits}
 use lib.Ieee.Exact.{odd_sign}
 use lib.Ieee.Bits.{is_true, nan_bits_above}
-use lib.Ieee.Compare.{differs_from_itself}
 use Rattle.base.proofs.Bits.{decode, fields-low, fields-mid, fields-top, value_low, value_mid}
 use Rattle.roots.specs.Sqrt.{round_root, sqrt}
 use Rattle.roots.specs.Parts.{Rooted}
@@ -20,9 +19,11 @@ use Rattle.roots.proofs.Fours.{fours}
 use Rattle.roots.proofs.Value.{sqrt-pos, sqrt-neg}
 
 -- ---- NaN
-pub at-nan : (f : Format) (x : Float) → ne x x ≡ true → x ≡ sqrt f x
-unfolding sqrt
-at-nan f x h = subst (λ (v : Float). v ≡ sqrt f v) (sym (differs_from_itself x (subst T (sym h) tt))) refl
+pub at-nan : (f : Format) (x : Float) → is_nan x ≡ true → x ≡ sqrt f x
+unfolding is_nan sqrt
+at-nan f nan h = refl
+at-nan f (inf s) h = absurd (true≢false (sym h))
+at-nan f (fin s m e) h = absurd (true≢false (sym h))
 
 pub made-nan : div binary64 (of_bits binary64 0) (of_bits binary64 0) ≡ nan
 unfolding div of_bits of_fields odd

@@ -3,12 +3,11 @@
 use Prim.Native.Nat.{ℕ, zero, suc, ◌+◌, ◌-◌, ◌*◌, ◌/◌, ◌%◌, ◌^◌, ◌≤◌, ◌<◌}
 use mathlib.Core.Bool.{Bool, true, false}
 use mathlib.Core.Path.{◌≡◌, refl, sym}
-use native.Mathlib.Nat.{mul-le-mul_right}
 use native.Mathlib.Omega.{arith}
 use borrow.Author.Tests.{leb-true, leb-false}
 use lib.Dec.{leb}
 use Rattle.roots.specs.Sqrt.{near_root}
-use Rattle.roots.proofs.Root.{sq-mono, near_up, near_down}
+use Rattle.roots.proofs.Root.{near_up, near_down}
 
 -- the square of the number before y
 before-sq : (q : ℕ) → suc q * suc q ≡ q * q + 2 * q + 1
@@ -53,13 +52,3 @@ module _ (a y : ℕ) (some : 0 < y) (high : y / 2 ^ 26 * (y / 2 ^ 26) ≤ a) whe
 
   pub tested-below : left < product → y % 2 ^ 26 * (y % 2 ^ 26) + (product - left) * 2 ^ 27 < y → y ≡ near_root (a * 2 ^ 52) 1
   tested-below l t = root_below a y (y / 2 ^ 26) (y % 2 ^ 26) (a - y / 2 ^ 26 * (y / 2 ^ 26)) some (omega arith) (omega arith) (product - left) (omega arith) t
-
--- ---- how large the halves' products are
-pub low-square : (l : ℕ) → l < 2 ^ 26 → l * l ≤ 2 ^ 52
-low-square l h = sq-mono {a = l} {b = 2 ^ 26} (omega arith)
-
-pub high-square : (y : ℕ) → y ≤ 2 ^ 53 → y / 2 ^ 26 * (y / 2 ^ 26) ≤ 2 ^ 54
-high-square y h = sq-mono {a = y / 2 ^ 26} {b = 2 ^ 27} (omega arith)
-
-pub mixed : (y : ℕ) → y ≤ 2 ^ 53 → y / 2 ^ 26 * (y % 2 ^ 26) ≤ 2 ^ 53
-mixed y h = let p : y / 2 ^ 26 * (y % 2 ^ 26) ≤ 2 ^ 27 * (y % 2 ^ 26) = mul-le-mul_right (y % 2 ^ 26) (omega arith) in omega arith

@@ -24,11 +24,9 @@ fn refine(a: u64, q0: u64, r0: u64, w0: u64, j0: u64) -> u64
     let mut q = q0;
     let mut r = r0;
     let mut w = w0;
-    let mut j = j0;
-    while j > 0 {
-        j -= 1;
-        w = w / 2;
-        r = r * 2;
+    for _ in 0..j0 {
+        w /= 2;
+        r *= 2;
         let t = q * 2 + w;
         if t <= r {
             r -= t;
@@ -38,22 +36,6 @@ fn refine(a: u64, q0: u64, r0: u64, w0: u64, j0: u64) -> u64
     if q < r { q + 1 } else { q }
 }
 
-// The bits of a number; 0 for NaN.
-fn bits_or_zero(x: f64) -> u64 {
-    if x != x {
-        return 0;
-    }
-    f64::to_bits(x)
-}
-
-// The positive number of these bits; 0 where they are no positive number's.
-fn float_or_zero(bits: u64) -> f64 {
-    if bits < INFINITY {
-        return f64::from_bits(bits);
-    }
-    0.0
-}
-
 // One step of Newton's towards 1 / √(2 * h).
 fn newton(h: f64, r: f64) -> f64 {
     r * (1.5 - h * r * r)
@@ -61,12 +43,12 @@ fn newton(h: f64, r: f64) -> f64 {
 
 // A guess at √x: nothing is promised of it.
 fn guess(x: f64) -> f64 {
-    let b = bits_or_zero(x) / 2;
+    let b = std::num::f64_to_bits_with_nan(x) / 2;
     if b > 0x5fe6_eb50_c7b5_37a9 {
         return 0.0;
     }
     let h = 0.5 * x;
-    let r = newton(h, float_or_zero(0x5fe6_eb50_c7b5_37a9 - b));
+    let r = newton(h, f64::from_bits(0x5fe6_eb50_c7b5_37a9 - b));
     let r = newton(h, newton(h, r));
     let g = x * r;
     g + 0.5 * r * (x - g * g)
@@ -77,7 +59,7 @@ fn guess_whole(a: u64) -> u64
     requires { a < 2 ^ 54 }
     ensures { (2 ^ 52 ≤ result) × (result ≤ 2 ^ 53) }
 {
-    let b = bits_or_zero(guess((a / 2) as f64 * 9007199254740992.0));
+    let b = std::num::f64_to_bits_with_nan(guess((a / 2) as f64 * 9007199254740992.0));
     if b < WHOLES {
         return HIDDEN;
     }
@@ -164,7 +146,7 @@ fn root_by_fours(m: u64, h: u64) -> u64
     let mut a = m;
     let mut c = h;
     while a < HIDDEN {
-        a = a * 4;
+        a *= 4;
         c -= 1;
     }
     c * HIDDEN + near_digits(a)
@@ -190,7 +172,7 @@ fn root_of(b: u64) -> u64
 pub fn sqrt(x: f64) -> f64
     ensures { result ≡ sqrt_of binary64 x }
 {
-    if x != x {
+    if x.is_nan() {
         return x;
     }
     let b = f64::to_bits(x);

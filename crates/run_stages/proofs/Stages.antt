@@ -1,4 +1,6 @@
 -- The stages in a row: what each leaves is what the next takes, and the words that are left stand in the first places. Assumes nothing.
+use Rattle.base.specs.declared.Refusal.{Refusal}
+use Rattle.std.specs.Prelude.{Ok, Err, Result}
 use Prim.Native.Nat.{ℕ, ◌-◌, ◌≤◌, ◌^◌, min}
 use mathlib.Core.Path.{◌≡◌, refl, sym, ap, subst, ◌∙◌}
 use mathlib.Core.Bool.{Bool}
@@ -16,8 +18,6 @@ use Rattle.onsets.specs.Onsets.{snap_onsets}
 use Rattle.ends.specs.Ends.{snap_ends}
 use Rattle.phrase_align.specs.PhraseAlign.{Placing, align_phrases, in_their_places, Output, output, accepted}
 use Rattle.phrase_align.proofs.Facts.{After, placed-after}
-use Rattle.phrase_align.specs.declared.Answer.{Answer}
-use Rattle.phrase_align.specs.declared.Answer.TheVariants.{Accepted, Refused}
 use Rattle.fit_to_sound.specs.FitToSound.{fit_to_sound}
 use Rattle.fit_file.specs.FitFile.{fit_file}
 use Rattle.run_stages.specs.Stages.{Settled, snapped, by_phrase, as_one, settled}
@@ -65,12 +65,12 @@ module _ (row : List Bool) (duration : Float) (spans : Spans) (phrases : List �
   phrased-is {n} {after} {numbers} places h = subst (λ (f : Settled). Settling f places n after numbers) (sym (settled-some h))
 
 -- ---- the count in an answer
-abbrev given : Answer → ℕ
-given (Accepted n) = n
-given (Refused r) = 0
+abbrev given : Result ℕ Refusal → ℕ
+given (Ok n) = n
+given (Err r) = 0
 
 module _ (spans : Spans) (phrases : List ℕ) (ws : Words) (even : OneLength (count ws) ws) (paired : length spans.counts ≡ length spans.starts)
-    {n : ℕ} {after : Words} {numbers : List ℕ} (placed : output (Accepted n) after numbers ≡ accepted (align_phrases ws spans) (count ws) phrases) where
+    {n : ℕ} {after : Words} {numbers : List ℕ} (placed : output (Ok n) after numbers ≡ accepted (align_phrases ws spans) (count ws) phrases) where
   abbrev out : Placing
   out = align_phrases ws spans
 

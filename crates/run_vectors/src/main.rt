@@ -26,12 +26,10 @@
 
 ghost use Rattle.std.specs.Prelude.{◌≤◌};
 
-use std::io::{self, Read};
-
-// The places of a tally: one for each kind of row, and the last for what is no row.
-const PLACES: usize = 5;
-
-const UNREADABLE: usize = 4;
+use std::num::f64_to_bits_with_nan;
+use std::{array, io};
+use vector_rows::numbers::{digits, is_loud};
+use vector_rows::rows::{RowKind, replay};
 
 // Samples in a frame.
 const HOP: usize = 160;
@@ -42,178 +40,126 @@ const SAMPLES: usize = 10240;
 // How long it is, in seconds; the second span ends there.
 const DURATION: f64 = 0.64;
 
-// What stands for every NaN.
-const NAN: u64 = 0x7ff8_0000_0000_0000;
+// What a row asks for.
+#[derive(Clone, Copy, Debug, PartialEq, Eq)]
+enum Kind {
+    InSpans,
+    WithoutSpans,
+    WithoutWords,
+    Planted,
+}
 
-// The place of a kind in a tally.
-fn place(kind: u8) -> usize {
-    match kind {
-        b'S' => 0,
-        b'W' => 1,
-        b'Z' => 2,
-        b'X' => 3,
-        _ => UNREADABLE,
+// The kinds, in the order of their lines.
+const KINDS: [Kind; 4] = [
+    Kind::InSpans,
+    Kind::WithoutSpans,
+    Kind::WithoutWords,
+    Kind::Planted,
+];
+
+impl RowKind for Kind {
+    fn letter(self) -> u8 {
+        match self {
+            Kind::InSpans => b'S',
+            Kind::WithoutSpans => b'W',
+            Kind::WithoutWords => b'Z',
+            Kind::Planted => b'X',
+        }
+    }
+
+    fn name(self) -> &'static str {
+        match self {
+            Kind::InSpans => "full runs in spans",
+            Kind::WithoutSpans => "full runs without spans",
+            Kind::WithoutWords => "full runs without words",
+            Kind::Planted => "planted full run",
+        }
+    }
+
+    fn is_right(self, a: u64, b: u64, r: u64) -> bool {
+        let digits = digits(a);
+        let samples = samples(b, digits[15]);
+        let folded = match self {
+            Kind::InSpans | Kind::Planted => run(&samples, &digits, 4, 2),
+            Kind::WithoutSpans => run(&samples, &digits, 4, 0),
+            Kind::WithoutWords => run(&samples, &digits, 0, 2),
+        };
+        folded == Some(r)
     }
 }
 
-// The lowest digit.
-fn digit(digits: u64) -> u32 {
-    (digits % 16) as u32
+// The time of a digit.
+fn time(digit: u32) -> f64 {
+    f64::from(digit) / 20.0
 }
 
-// The time of the lowest digit.
-fn time(digits: u64) -> f64 {
-    (digit(digits) as f64) / 20.0
-}
-
-// The times of every second of the eight highest digits, from the highest on.
-fn times(digits: u64) -> [f64; 4] {
-    [
-        time(digits >> 60),
-        time(digits >> 52),
-        time(digits >> 44),
-        time(digits >> 36),
-    ]
-}
-
-// The keys: the four digits after the eight highest.
-fn keys(digits: u64) -> [u32; 4] {
-    [
-        digit(digits >> 28),
-        digit(digits >> 24),
-        digit(digits >> 20),
-        digit(digits >> 16),
-    ]
-}
-
-// A sample of a frame that is loud where the lowest bit is one.
-fn sample(loud: u64) -> f32 {
-    if loud % 2 == 1 {
-        return 0.5;
+// The samples of a recording, of which the first is no number where the digit says so.
+fn samples(recording: u64, first: u32) -> [f32; SAMPLES] {
+    let mut samples = array::from_fn(|i| if is_loud(recording, i / HOP) {
+        0.5
+    } else {
+        0.0
+    });
+    match first {
+        1 => samples[0] = f32::NAN,
+        2 => samples[0] = f32::INFINITY,
+        _ => {}
     }
-    0.0
+    samples
 }
 
-// The bits of the frames from that of sample i + 1 on.
-fn from_next(loud: u64, i: usize) -> u64 {
-    if i % HOP == HOP - 1 {
-        return loud >> 1;
+// Numbers folded into 64 bits.
+#[derive(Clone, Copy, Debug, PartialEq, Eq)]
+struct Folded(u64);
+
+impl Folded {
+    // Folds one more number.
+    fn number(&mut self, x: u64) {
+        self.0 = self.0.rotate_left(5) ^ x;
     }
-    loud
-}
 
-// Makes a frame loud for each bit that is one, the lowest first.
-fn set_samples(samples: &mut [f32; 10240], loud: u64) {
-    let mut left = loud;
-    let mut i = 0;
-    while i < SAMPLES {
-        samples[i] = sample(left);
-        left = from_next(left, i);
-        i += 1;
+    // The same for a double.
+    fn time(&mut self, x: f64) {
+        self.number(f64_to_bits_with_nan(x));
+    }
+
+    // The same for a list of numbers.
+    fn numbers(&mut self, list: &[u32]) {
+        for x in list {
+            self.number(u64::from(*x));
+        }
+    }
+
+    // The same for a list of doubles.
+    fn times(&mut self, list: &[f64]) {
+        for x in list {
+            self.time(*x);
+        }
     }
 }
 
-// The first sample: one that is no number where the digit says so.
-fn first(kind: u32, sample: f32) -> f32 {
-    match kind {
-        1 => 0.0f32 / 0.0f32,
-        2 => 1.0f32 / 0.0f32,
-        _ => sample,
-    }
-}
-
-// What there is, with one more number.
-fn fold(folded: u64, x: u64) -> u64 {
-    ((folded << 5) | (folded >> 59)) ^ x
-}
-
-// The same for a double.
-fn fold_time(folded: u64, x: f64) -> u64 {
-    if x != x {
-        return fold(folded, NAN);
-    }
-    fold(folded, f64::to_bits(x))
-}
-
-// The same for four doubles.
-fn fold_times(folded: u64, list: &[f64; 4]) -> u64 {
-    fold_time(
-        fold_time(fold_time(fold_time(folded, list[0]), list[1]), list[2]),
-        list[3],
-    )
-}
-
-// The same for a number.
-fn fold_number(folded: u64, x: u32) -> u64 {
-    fold(folded, x as u64)
-}
-
-// The same for four numbers.
-fn fold_numbers(folded: u64, list: &[u32; 4]) -> u64 {
-    let two = fold_number(fold_number(folded, list[0]), list[1]);
-    fold_number(fold_number(two, list[2]), list[3])
-}
-
-// 1 for a yes.
-fn one_if(yes: bool) -> u64 {
-    if yes {
-        return 1;
-    }
-    0
-}
-
-// What a run gives back.
-fn fold_report(report: full_run::Report) -> u64 {
-    let counts = fold(
-        fold(one_if(report.found), report.pieces as u64),
-        report.words as u64,
-    );
-    fold_time(counts, report.floor)
-}
-
-// What a run leaves of its levels and pieces.
-fn fold_heard(folded: u64, levels: &[f64; 64], piece_start: usize, piece_end: usize) -> u64 {
-    let heard = fold_time(fold_time(folded, levels[0]), levels[63]);
-    fold(fold(heard, piece_start as u64), piece_end as u64)
-}
-
-// What a run leaves in the places of the words.
-fn fold_words(
-    folded: u64,
-    starts: &[f64; 4],
-    ends: &[f64; 4],
-    letters: &[u32; 4],
-    units: &[u32; 4],
-    keys: &[u32; 4],
-    phrases: &[u32; 4],
-) -> u64 {
-    let times = fold_times(fold_times(folded, starts), ends);
-    let numbers = fold_numbers(fold_numbers(times, letters), units);
-    fold_numbers(fold_numbers(numbers, keys), phrases)
-}
-
-// Whether r is what a run of the first so many of four words gives back and leaves, over these samples
-// and the first so many of two spans.
-fn is_run(samples: &[f32; 10240], a: u64, words: usize, spans: usize, r: u64) -> bool
+// What a run of the first so many of four words gives back and leaves, over these samples and the
+// first so many of two spans.
+fn run(samples: &[f32; SAMPLES], digits: &[u32; 16], words: usize, spans: usize) -> Option<u64>
     requires { (words ≤ 4) × (spans ≤ 2) }
 {
-    let mut starts = times(a);
-    let mut ends = times(a << 4);
-    let mut letters = [4u32, 3, 2, 1];
-    let mut units = [5u32; 4];
-    let mut keys = keys(a);
-    let edge = time(a >> 12);
+    let mut starts: [f64; 4] = array::from_fn(|i| time(digits[2 * i]));
+    let mut ends: [f64; 4] = array::from_fn(|i| time(digits[2 * i + 1]));
+    let mut letters = [4, 3, 2, 1];
+    let mut units = [5; 4];
+    let mut keys = [digits[8], digits[9], digits[10], digits[11]];
+    let edge = time(digits[12]);
     let span_starts = [0.0, edge];
     let span_ends = [edge, DURATION];
-    let counts = [digit(a >> 8), digit(a >> 4)];
-    let mut phrases = [9u32; 4];
+    let counts = [digits[13], digits[14]];
+    let mut phrases = [9; 4];
     let mut levels = [0.0; 64];
-    let mut piece_starts = [0usize; 1];
-    let mut piece_ends = [0usize; 1];
+    let mut piece_starts = [0; 1];
+    let mut piece_ends = [0; 1];
     let mut work_starts = [0.0; 4];
     let mut work_ends = [0.0; 4];
-    let mut work_letters = [0u32; 4];
-    let answer = full_run::full_run(
+    let mut work_letters = [0; 4];
+    let report = full_run::full_run(
         samples,
         &mut starts[..words],
         &mut ends[..words],
@@ -230,99 +176,24 @@ fn is_run(samples: &[f32; 10240], a: u64, words: usize, spans: usize, r: u64) ->
         &mut work_starts,
         &mut work_ends,
         &mut work_letters,
-    );
-    match answer {
-        full_run::Answer::Accepted(report) => {
-            let heard = fold_heard(fold_report(report), &levels, piece_starts[0], piece_ends[0]);
-            fold_words(heard, &starts, &ends, &letters, &units, &keys, &phrases) == r
-        }
-        full_run::Answer::Refused(_) => false,
-    }
-}
-
-// Whether r is the answer for words and spans and a recording, for each kind of row.
-fn is_right(kind: u8, a: u64, loud: u64, r: u64) -> bool {
-    let mut samples = [0.0f32; 10240];
-    set_samples(&mut samples, loud);
-    samples[0] = first(digit(a), samples[0]);
-    match kind {
-        b'S' | b'X' => is_run(&samples, a, 4, 2, r),
-        b'W' => is_run(&samples, a, 4, 0, r),
-        b'Z' => is_run(&samples, a, 0, 2, r),
-        _ => false,
-    }
-}
-
-// Adds one at a place of a tally.
-fn add(tally: &mut [u64; 5], at: usize) {
-    if at < PLACES {
-        if tally[at] < u64::MAX {
-            tally[at] += 1;
-        }
-    }
-}
-
-// Counts a row, and counts it as wrong where its answer is.
-fn judge(row: &[u8; 53], compared: &mut [u64; 5], wrong: &mut [u64; 5]) {
-    let a = vector_rows::number(row, 2);
-    let b = vector_rows::number(row, 19);
-    let r = vector_rows::number(row, 36);
-    if (a.seen | b.seen | r.seen) > 15 || !vector_rows::is_spaced(row) {
-        add(compared, UNREADABLE);
-        return;
-    }
-    add(compared, place(row[0]));
-    if !is_right(row[0], a.bits, b.bits, r.bits) {
-        add(wrong, place(row[0]));
-    }
-}
-
-// Reads one row and judges it; answers whether to go on.
-fn take_row<R: Read>(
-    input: &mut R,
-    compared: &mut [u64; 5],
-    wrong: &mut [u64; 5],
-) -> io::Result<bool> {
-    let mut row = [0u8; 53];
-    let n = vector_rows::read_row(input, &mut row)?;
-    if n == 0 {
-        return Ok(false);
-    }
-    if n < 53 {
-        add(compared, UNREADABLE);
-        return Ok(false);
-    }
-    judge(&row, compared, wrong);
-    Ok(true)
-}
-
-// Judges every row. A proved loop has to end, and nothing says that the input does, so it has so
-// many turns that no run uses them up.
-fn take_all<R: Read>(
-    input: &mut R,
-    compared: &mut [u64; 5],
-    wrong: &mut [u64; 5],
-) -> io::Result<()> {
-    for _ in 0..u64::MAX {
-        if !take_row(input, compared, wrong)? {
-            break;
-        }
-    }
-    Ok(())
-}
-
-// Writes a line for one kind.
-fn print_line(rt: &impl Print, name: &str, compared: u64, wrong: u64) -> io::Result<()> {
-    println!(rt; "{name} {compared} compared, {wrong} wrong")
+    )
+    .ok()?;
+    let mut folded = Folded(0);
+    folded.number(u64::from(report.found));
+    folded.number(report.pieces as u64);
+    folded.number(report.words as u64);
+    folded.times(&[report.floor, levels[0], levels[63]]);
+    folded.number(piece_starts[0] as u64);
+    folded.number(piece_ends[0] as u64);
+    folded.times(&starts);
+    folded.times(&ends);
+    folded.numbers(&letters);
+    folded.numbers(&units);
+    folded.numbers(&keys);
+    folded.numbers(&phrases);
+    Some(folded.0)
 }
 
 fn main(rt: HostRuntime) -> io::Result<()> {
-    let mut compared = [0u64; 5];
-    let mut wrong = [0u64; 5];
-    take_all(&mut rt.stdin(), &mut compared, &mut wrong)?;
-    print_line(&rt, "full runs in spans", compared[0], wrong[0])?;
-    print_line(&rt, "full runs without spans", compared[1], wrong[1])?;
-    print_line(&rt, "full runs without words", compared[2], wrong[2])?;
-    print_line(&rt, "planted full run", compared[3], wrong[3])?;
-    println!(rt; "unreadable {}", compared[UNREADABLE])
+    replay(&rt, &KINDS, &mut rt.stdin())
 }

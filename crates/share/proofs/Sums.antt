@@ -1,19 +1,14 @@
--- The sum of the letters, one by one; of the first words; and how large it can be. Assumes nothing.
+-- The sum of the letters; of the first words; and how large it can be. Assumes nothing.
 use Prim.Native.Nat.{ℕ, zero, suc, ◌+◌, ◌*◌, ◌≤◌, ◌<◌}
 use mathlib.Core.Path.{◌≡◌, refl, ◌∙◌}
 use mathlib.Core.List.{List, [], ◌∷◌}
 use native.Mathlib.Nat.{zero-add}
 use native.Mathlib.Omega.{arith}
-use lib.ListN.{length, take, drop, get_or}
+use lib.ListN.{length, take, get_or}
+use Rattle.std.specs.List.{sum as sum_all}
 use Rattle.base.specs.Loop.{fold}
-use Rattle.base.proofs.Loops.{fold_next, fold_done}
+use Rattle.base.proofs.Loops.{fold-is}
 use Rattle.share.specs.Share.{sum}
-
-pub sum-next : (letters : List ℕ) (n i : ℕ) → i < length letters → fold ◌+◌ n (drop i letters) ≡ fold ◌+◌ (n + get_or letters i 0) (drop (i + 1) letters)
-sum-next letters n i h = fold_next ◌+◌ letters i 0 h refl
-
-pub sum_done : (letters : List ℕ) (n i : ℕ) → length letters ≤ i → fold ◌+◌ n (drop i letters) ≡ n
-sum_done letters n i h = fold_done ◌+◌ letters i n h
 
 -- ---- the first letters apart
 fold-plus : (n : ℕ) (letters : List ℕ) → fold ◌+◌ n letters ≡ n + fold ◌+◌ 0 letters
@@ -28,6 +23,11 @@ sum-cons n letters = rw zero-add (fold-plus n letters)
 pub sum-nil : sum [] ≡ 0
 unfolding sum fold
 sum-nil = refl
+
+-- ---- it is the sum of the list
+pub sum-is : (letters : List ℕ) → sum_all letters ≡ sum letters
+unfolding sum
+sum-is letters = fold-is ◌+◌ 0 letters
 
 -- ---- the first i words, and one more
 pub sum-take : (letters : List ℕ) (i : ℕ) → i < length letters → sum (take (suc i) letters) ≡ sum (take i letters) + get_or letters i 0

@@ -11,12 +11,7 @@ pub fn total(letters: &[u32]) -> f64
     requires { length letters.now ≤ 4096 }
     ensures { result ≡ num (sum letters.now) }
 {
-    let mut n: u64 = 0;
-    let mut i = 0;
-    while i < letters.len() {
-        n += letters[i] as u64;
-        i += 1;
-    }
+    let n: u64 = letters.iter().map(|n| u64::from(*n)).sum();
     n as f64
 }
 
@@ -35,12 +30,10 @@ pub fn share(
         after ≡ share_out letters.now room total from before }
 {
     let mut t = from;
-    let mut i = 0;
-    while i < letters.len() {
-        let end = t + room * (letters[i] as f64) / total;
+    for (i, n) in letters.iter().enumerate() {
+        let end = t + room * f64::from(*n) / total;
         starts[i] = t;
         ends[i] = end;
         t = end;
-        i += 1;
     }
 }

@@ -1,6 +1,4 @@
 -- Laws of the words of one phrase.
-pub mod InsideSpan
 pub mod Sides
-pub mod Around
 pub mod Long
 pub mod Untouched

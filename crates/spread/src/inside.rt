@@ -14,12 +14,7 @@ const MIN_WORD: f64 = 0.04;
 fn is_inside(from: f64, to: f64, w: Times) -> bool
     ensures { result ≡ inside from to w }
 {
-    if w.start >= from - EDGE_SLACK {
-        if w.end <= to + EDGE_SLACK {
-            return w.end - w.start >= MIN_WORD;
-        }
-    }
-    false
+    w.start >= from - EDGE_SLACK && w.end <= to + EDGE_SLACK && w.end - w.start >= MIN_WORD
 }
 
 // Whether word i is inside.
@@ -39,14 +34,10 @@ pub fn first_inside(starts: &[f64], ends: &[f64], from: f64, to: f64) -> usize
     requires { length ends.now ≡ length starts.now }
     ensures { (result ≡ first_inside from to (edges starts.now ends.now)) × (result ≤ length starts.now) }
 {
-    let mut i = 0;
-    while i < starts.len() {
-        if inside_at(starts, ends, from, to, i) {
-            return i;
-        }
-        i += 1;
-    }
-    i
+    let count = starts.len();
+    (0..count)
+        .find(|&i| inside_at(starts, ends, from, to, i))
+        .unwrap_or(count)
 }
 
 // The last word inside; some word is.
@@ -54,12 +45,8 @@ pub fn last_inside(starts: &[f64], ends: &[f64], from: f64, to: f64) -> usize
     requires { (0 < length starts.now) × (length ends.now ≡ length starts.now) }
     ensures { (result ≡ last_inside from to (edges starts.now ends.now)) × (result < length starts.now) }
 {
-    let mut last = starts.len() - 1;
-    while 0 < last {
-        if inside_at(starts, ends, from, to, last) {
-            return last;
-        }
-        last -= 1;
-    }
-    last
+    (1..starts.len())
+        .rev()
+        .find(|&i| inside_at(starts, ends, from, to, i))
+        .unwrap_or(0)
 }

@@ -37,10 +37,8 @@ fn place_between(
         let after = edges starts.new ends.new in
         after ≡ place_between from to first last before }
 {
-    let mut i = first + 1;
-    while i < last {
+    for i in first + 1..last {
         place_stray(starts, ends, from, to, i);
-        i += 1;
     }
 }
 
@@ -75,7 +73,7 @@ pub fn place_group(starts: &mut [f64], ends: &mut [f64], letters: &[u32], from: 
     let first = inside::first_inside(starts, ends, from, to);
     if first < letters.len() {
         place_around(starts, ends, letters, from, to, first);
-        return;
+    } else {
+        by_letters::spread(starts, ends, letters, from, to);
     }
-    by_letters::spread(starts, ends, letters, from, to);
 }

@@ -5,9 +5,8 @@ use mathlib.Core.Bool.{Bool, true, false, cond, not, ◌&&◌, ◌||◌}
 use mathlib.Core.List.{List}
 use mathlib.Core.Path.{◌≡◌, refl, sym, ap, ◌∙◌, subst}
 use native.Mathlib.Omega.{arith}
-use native.Mathlib.Nat.{lt_of_le_of_lt}
 use borrow.Author.Tests.{eqb-false, ltb-true, ltb-false, lt-ltb, le-ltb}
-use lib.Dec.{ltb, eqb, lit<}
+use lib.Dec.{ltb, eqb}
 use lib.IntN.{ℤ, pos, negsuc, ◌-ℤ◌}
 use lib.ListN.{length}
 use lib.Ieee.{Float, le}
@@ -79,16 +78,6 @@ max-most a b d n h p q = omega arith
 -- the frames of a sound that goes on beyond that
 frames-far : (f t r n : ℕ) → 5001 ≤ t - f → t ≤ r → r ≤ n → (5001 ≤ r - f) × (r - f ≤ n)
 frames-far f t r n l a b = (omega arith, omega arith)
-
--- where the code's searches end, in a number that can be counted on from
-min-most : (a b d n : ℕ) → a ≡ min b d → b ≤ n → a ≤ n
-min-most a b d n e h = omega arith
-
-pub search-ends : (x n y f hi far t k : ℕ) → f ≡ min x (2 ^ 40) → n ≤ 2 ^ 40 → hi ≡ min n y → far ≡ min hi (f + 5001) → t ≤ max f far → k ≤ max t hi → k < 2 ^ 62
-search-ends x n y f hi far t k ef en eh ea et ek =
-    let h : hi ≤ 2 ^ 40 = min-most hi n y (2 ^ 40) eh en in
-    let g : f ≤ 2 ^ 40 = rw ef (omega arith) in
-    let m : k ≤ 2 ^ 40 = max-most k t hi (2 ^ 40) ek (max-most t f far (2 ^ 40) et g (min-most far hi (f + 5001) (2 ^ 40) ea h)) h in lt_of_le_of_lt m (lit< tt)
 
 -- what hand_back does once the start has landed
 unfoldable hand_from : List Bool → ℤ → ℤ → Neighbours → ℕ → Neighbours

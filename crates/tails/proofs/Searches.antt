@@ -20,29 +20,6 @@ use Rattle.envelope.proofs.Scan.{loud-past, beq-is, beq-not}
 use Rattle.tails.specs.Tails.{loud_turn, past_loud, Quiet, quiet_turn, past_quiet, own_sound}
 use Rattle.tails.specs.Parts.{across, below, three}
 
--- ---- the code's tests, by the branches that it takes
-module _ (row : List Bool) (hi k : ℕ) where
-  pub three-go : {r : Bool} → below row hi k ≡ true → below row hi (k + 1) ≡ true → r ≡ below row hi (k + 2) → r ≡ three row hi k
-  unfolding three
-  three-go p q e = rw (p, q) e
-
-  pub three-two : below row hi k ≡ true → below row hi (k + 1) ≡ false → false ≡ three row hi k
-  unfolding three
-  three-two p q = rw (p, q)
-
-  pub three-one : below row hi k ≡ false → false ≡ three row hi k
-  unfolding three
-  three-one p = rw p
-
-module _ (row : List Bool) (f : ℕ) (n : f ≡ 0 → ⊥) where
-  pub across-go : {r : Bool} → loud row (pos (f - 1)) ≡ true → r ≡ loud row (pos f) → r ≡ across row f
-  unfolding across
-  across-go p e = rw (ne_eqb f 0 n, p) e
-
-  pub across-no : loud row (pos (f - 1)) ≡ false → false ≡ across row f
-  unfolding across
-  across-no p = rw (ne_eqb f 0 n, p)
-
 and3 : (a b c : Bool) → (a && (b && c)) ≡ cond a (cond b c false) false
 and3 true true c = refl
 and3 true false c = refl

@@ -7,8 +7,7 @@ ghost use Rattle.envelope.specs.Envelope.{loud_row};
 ghost use Rattle.word_calls.specs.Calls.{output};
 ghost use Rattle.tails.specs.Tails.{hand_back_tails, tails_call};
 
-use base::{Rule, Times};
-use limits::Answer;
+use base::{Refusal, Times};
 use one_word::Neighbours;
 
 pub mod one_word;
@@ -23,8 +22,7 @@ pub fn move_tails(starts: &mut [f64], ends: &mut [f64], letters: &[u32], levels:
         let after = edges starts.new ends.new in
         after ≡ hand_back_tails (loud_row floor levels.now) letters.now before }
 {
-    let mut i = 1;
-    while i < starts.len() {
+    for i in 1..starts.len() {
         let prev = Times {
             start: starts[i - 1],
             end: ends[i - 1],
@@ -38,7 +36,6 @@ pub fn move_tails(starts: &mut [f64], ends: &mut [f64], letters: &[u32], levels:
         ends[i - 1] = p.prev.end;
         starts[i] = p.w.start;
         ends[i] = p.w.end;
-        i += 1;
     }
 }
 
@@ -52,17 +49,12 @@ pub fn hand_back_tails(
     letters: &[u32],
     units: &[u32],
     keys: &[u32],
-) -> Answer
+) -> Result<(), Refusal>
     ensures { let before = words starts.old ends.old letters.now units.now keys.now in
         let after = words starts.new ends.new letters.now units.now keys.now in
         output result after ≡ tails_call before levels.now floor count }
 {
-    let rule = word_calls::sound_rule(starts, ends, letters, units, keys, levels.len(), count);
-    match rule {
-        Rule::Breaks(why) => Answer::Refused(why),
-        Rule::Fine => {
-            move_tails(starts, ends, letters, levels, floor);
-            Answer::Accepted
-        }
-    }
+    word_calls::sound_rule(starts, ends, letters, units, keys, levels.len(), count)?;
+    move_tails(starts, ends, letters, levels, floor);
+    Ok(())
 }

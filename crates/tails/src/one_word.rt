@@ -17,6 +17,8 @@ const MIN_LETTER: f64 = 0.05;
 const MAX_TAIL: usize = 5001;
 // So many quiet frames in a row, 80 ms, end a tail.
 const EDGE_QUIET: usize = 8;
+// So many loud frames in a row, 30 ms, are a word's own sound.
+const MIN_RUN: usize = 3;
 
 // Two words in a row: the times of the one before, and of the word itself.
 #[derive(Drop)]
@@ -26,26 +28,20 @@ pub struct Neighbours {
 }
 
 // The sound runs across the start of a frame.
+#[tactic(auto, unfolding(crate::specs::Parts::across))]
 fn across(levels: &[f64], floor: f64, f: usize) -> bool
     ensures { result ≡ across_at (loud_row floor levels.now) f }
 {
-    if f == 0 {
-        return false;
-    }
-    if envelope::loud_at(levels, floor, f - 1) {
-        return envelope::loud_at(levels, floor, f);
-    }
-    false
+    f > 0 && envelope::loud_at(levels, floor, f - 1) && envelope::loud_at(levels, floor, f)
 }
 
 // A word that starts on the tail of the word before it, in frame f.
+#[tactic(auto, unfolding(crate::specs::Parts::lands))]
 fn lands(levels: &[f64], floor: f64, prev_end: f64, start: f64, f: usize) -> bool
     ensures { result ≡ lands_at (loud_row floor levels.now) prev_end start f }
 {
-    if start - prev_end >= LOOSE {
-        return false;
-    }
-    across(levels, floor, f)
+    let is_loose = start - prev_end >= LOOSE;
+    !is_loose && across(levels, floor, f)
 }
 
 // A sound that is as long as the letters need.
@@ -56,26 +52,20 @@ fn is_long(n: usize, letters: u32) -> bool
 }
 
 // A loud frame before hi.
+#[tactic(auto, unfolding(crate::specs::Parts::below))]
 fn loud_below(levels: &[f64], floor: f64, hi: usize, k: usize) -> bool
     ensures { result ≡ below (loud_row floor levels.now) hi k }
 {
-    if k < hi {
-        return envelope::loud_at(levels, floor, k);
-    }
-    false
+    k < hi && envelope::loud_at(levels, floor, k)
 }
 
 // Three loud frames from k on.
+#[tactic(auto, unfolding(crate::specs::Parts::three))]
 fn own_sound(levels: &[f64], floor: f64, hi: usize, k: usize) -> bool
     requires { k < 2 ^ 62 }
     ensures { result ≡ three (loud_row floor levels.now) hi k }
 {
-    if loud_below(levels, floor, hi, k) {
-        if loud_below(levels, floor, hi, k + 1) {
-            return loud_below(levels, floor, hi, k + 2);
-        }
-    }
-    false
+    (k..k + MIN_RUN).all(|j| loud_below(levels, floor, hi, j))
 }
 
 // A word hands its tail of sound back to the word before it, if it starts on one.
@@ -87,8 +77,8 @@ pub fn hand_back(levels: &[f64], floor: f64, p: Neighbours, letters: u32) -> Nei
     if !lands(levels, floor, p.prev.end, p.w.start, f) {
         return p;
     }
-    let hi = base::least(levels.len(), frames::frame_index(p.w.end));
-    let far = base::least(hi, f + MAX_TAIL);
+    let hi = levels.len().min(frames::frame_index(p.w.end));
+    let far = hi.min(f + MAX_TAIL);
     let t = envelope::first_frame(levels, floor, false, f, far);
     if MAX_TAIL <= t - f {
         return p;

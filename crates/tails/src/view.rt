@@ -4,8 +4,8 @@ ghost use Rattle.base.specs.Words.{words};
 ghost use Rattle.word_calls.specs.Calls.{output};
 ghost use Rattle.tails.specs.Tails.{tails_call};
 
+use base::Refusal;
 use envelope::view::Envelope;
-use limits::Answer;
 
 // Hands tails of sound back to the words before, by the sound of the recording whose envelope is e (onsets.rs, hand_back_tails).
 pub fn hand_back_tails<'a>(
@@ -15,7 +15,7 @@ pub fn hand_back_tails<'a>(
     letters: &[u32],
     units: &[u32],
     keys: &[u32],
-) -> Answer
+) -> Result<(), Refusal>
     ensures { let before = words starts.old ends.old letters.now units.now keys.now in
         let after = words starts.new ends.new letters.now units.now keys.now in
         output result after ≡ tails_call before e.entry.levels.now e.entry.floor e.entry.count }

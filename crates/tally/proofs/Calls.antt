@@ -1,4 +1,5 @@
 -- The call `tally_at` in plain words, and for the code what its tests found. By reading what the tests find. Assumes nothing.
+use Rattle.std.specs.Prelude.{Ok, Err}
 use Prim.Native.Nat.{ℕ, ◌≤◌, ◌^◌}
 use mathlib.Core.Path.{◌≡◌, refl, sym, ◌∙◌}
 use mathlib.Core.Logic.{◌↔◌}
@@ -7,12 +8,9 @@ use lib.ListN.{length, take, drop}
 use lib.Ieee.{Float}
 use Rattle.base.specs.Words.{Words, Spans, edges}
 use Rattle.base.specs.declared.Refusal.{Refusal}
-use Rattle.base.specs.declared.Rule.{Rule}
-use Rattle.base.specs.declared.Rule.TheVariants.{Fine, Breaks}
-use Rattle.base.specs.Refusals.{First, accepts, refuses, Judged, says_of}
+use Rattle.base.specs.Refusals.{First, accepts, refuses, Judged, says_of, Rule, says}
 use Rattle.base.proofs.First.{apart, judged}
-use Rattle.limits.specs.Order.{in_order, chain, says}
-use Rattle.limits.specs.declared.Answer.TheVariants.{Accepted, Refused}
+use Rattle.limits.specs.Order.{in_order, chain}
 use Rattle.word_calls.specs.Within.{PhrasesWithin}
 use Rattle.word_calls.specs.Calls.{phrases_applies, phrases_rule}
 use Rattle.word_calls.proofs.Moved.{within-phrases, listed-phrases, phrases-fine, few-levels}
@@ -34,8 +32,8 @@ module _ (ws : Words) (phrases : List ℕ) (spans : Spans) (levels : List Float)
 
   -- what is said, by what the tests find
   rule-says : (r : Rule) → says (by_rule r given many places).answer ≡ says_of tt r
-  rule-says Fine = refl
-  rule-says (Breaks q) = refl
+  rule-says (Ok u) = refl
+  rule-says (Err q) = refl
 
   -- ---- accepted exactly when words, samples and levels and spans are within the limits, each word has a phrase number, and each span a place; refused with n exactly when n is
   -- the first that applies, of 3, 4, 1, 2, 7, 6
@@ -58,20 +56,20 @@ module _ (ws : Words) (phrases : List ℕ) (spans : Spans) (levels : List Float)
   unfolding tally_call
   accepted-places = go rule where
     go : (r : Rule) → says (by_rule r given many places).answer ≡ accepts tt → (by_rule r given many places).places ≡ given ++ drop many places
-    go Fine h = refl
-    go (Breaks q) h = apart (sym h)
+    go (Ok u) h = refl
+    go (Err q) h = apart (sym h)
 
   -- ---- a refusal changes nothing
   pub refusal-keeps : (n : ℕ) → says (tally_call ws phrases spans levels floor samples places).answer ≡ refuses n → (tally_call ws phrases spans levels floor samples places).places ≡ places
   unfolding tally_call
   refusal-keeps n = go rule where
     go : (r : Rule) → says (by_rule r given many places).answer ≡ refuses n → (by_rule r given many places).places ≡ places
-    go Fine h = apart h
-    go (Breaks q) h = refl
+    go (Ok u) h = apart h
+    go (Err q) h = refl
 
 -- ---- for the code: what it needs where the tests find nothing
 module _ (ws : Words) (phrases : ℕ) (spans : Spans) (levels samples places : ℕ) {found : Rule}
-    (is : found ≡ phrases_rule ws phrases spans levels samples places (length spans.starts)) (fine : found ≡ Fine) where
+    (is : found ≡ phrases_rule ws phrases spans levels samples places (length spans.starts)) (fine : found ≡ Ok tt) where
   within : PhrasesWithin ws phrases spans levels samples places (length spans.starts)
   within = phrases-fine ws phrases spans levels samples places (length spans.starts) (sym is ∙ fine)
 
@@ -88,12 +86,12 @@ module _ (ws : Words) (phrases : ℕ) (spans : Spans) (levels samples places : �
 -- ---- and what it answers and leaves
 module _ (ws : Words) (phrases : List ℕ) (spans : Spans) (levels : List Float) (floor : Float) (samples : ℕ) (places : List ℕ) {found : Rule}
     (is : found ≡ phrases_rule ws (length phrases) spans (length levels) samples (length places) (length spans.starts)) where
-  pub refused-made : (r : Refusal) → found ≡ Breaks r → output (Refused r) places ≡ tally_call ws phrases spans levels floor samples places
+  pub refused-made : (r : Refusal) → found ≡ Err r → output (Err r) places ≡ tally_call ws phrases spans levels floor samples places
   unfolding tally_call
   refused-made r e = rw (← is, e)
 
-  pub accepted-made : {now later : List ℕ} → found ≡ Fine → now ≡ zeros (length spans.starts) ++ drop (length spans.starts) places
+  pub accepted-made : {now later : List ℕ} → found ≡ Ok tt → now ≡ zeros (length spans.starts) ++ drop (length spans.starts) places
       → later ≡ tallies (loud_row floor levels) phrases (edges ws.starts ws.ends) (length spans.starts) ++ drop (length spans.starts) now
-      → output Accepted later ≡ tally_call ws phrases spans levels floor samples places
+      → output (Ok tt) later ≡ tally_call ws phrases spans levels floor samples places
   unfolding tally_call
   accepted-made fine e l = rw (← is, fine, l, zeros-behind (length spans.starts) places e)

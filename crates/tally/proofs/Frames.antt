@@ -36,14 +36,14 @@ module _ (row : List Bool) (lo : ℕ) where
       rw s (sym (rw z at (each_last (loud_turn row) (k - lo) lo 0)))
 
 -- ---- the code's turn, by what it found of the frame
-module _ (row : List Bool) (k n : ℕ) {b : Bool} (is : b ≡ get_or row k false) where
-  pub turn-loud : b ≡ true → n + 1 ≡ loud_turn row k n
+module _ (row : List Bool) (k n : ℕ) {b : Bool} {m : ℕ} (is : b ≡ get_or row k false) where
+  pub turn-loud : b ≡ true → m ≡ n + 1 → m ≡ loud_turn row k n
   unfolding loud_turn
-  turn-loud h = rw (← is, h) (add-one n)
+  turn-loud h e = rw (← is, h, e) (add-one n)
 
-  pub turn-quiet : b ≡ false → n ≡ loud_turn row k n
+  pub turn-quiet : b ≡ false → m ≡ n → m ≡ loud_turn row k n
   unfolding loud_turn
-  turn-quiet h = rw (← is, h)
+  turn-quiet h e = rw (← is, h, e)
 
 -- ---- a frame's turn, by whether the word lies over it
 module _ (row : List Bool) (w : Times) (k n : ℕ) where

@@ -2,20 +2,21 @@
 -- place of its own number, and for every other span its turn changes nothing. Assumes nothing.
 use Prim.Native.Nat.{ℕ, zero, suc, ◌+◌, ◌*◌, ◌<◌, ◌≤◌, ◌^◌}
 use mathlib.Core.Bool.{Bool, true, false, cond}
-use mathlib.Core.List.{List, ◌++◌}
+use mathlib.Core.List.{List, ◌∷◌, ◌++◌}
 use mathlib.Core.Path.{◌≡◌, refl, sym, ap, ◌∙◌, subst}
 use native.Mathlib.Omega.{arith}
 use native.Mathlib.Nat.{mul-le-mul, le_trans, suc-mul}
 use native.Mathlib.Numerals.{add-one}
-use borrow.Author.Tests.{ltb-true, ltb-false, lt-ltb, le-ltb, eqb-true, eqb-false, eq-eqb, ne_eqb}
+use borrow.Author.Tests.{ltb-true, ltb-false, eqb-true, eqb-false, eq-eqb, ne_eqb}
 use lib.Dec.{ltb, eqb}
-use lib.ListN.{length, get_or, set, take, drop, length-set, length-append, take-append-drop}
+use lib.ListN.{length, get_or, set, replicate, take, drop, length-set, length-append, take-append-drop}
 use lib.Seq.{get_or-set_other, take-append_seam, drop-append_seam}
 use lib.Ieee.{nan}
+use Rattle.std.proofs.lemmas.List.{length-take-le}
 use Rattle.base.specs.Loop.{each, table}
 use Rattle.base.specs.Words.{Edges, times_at, set_times}
 use Rattle.base.specs.declared.Times.{Times}
-use Rattle.base.proofs.Loops.{each_last, each_seen, each-table, length-table}
+use Rattle.base.proofs.Loops.{each_last, each_seen, length-table}
 use Rattle.tally.specs.Tally.{loud_under, span_turn, span_tally, tallies}
 use Rattle.tally.specs.Parts.{added_at, zeros, sofar, filled}
 use Rattle.tally.proofs.Frames.{under-most}
@@ -61,13 +62,15 @@ module _ (n : ℕ) (places : List ℕ) {now : List ℕ} (is : now ≡ zeros n ++
   pub zeros-room : n ≤ length now
   zeros-room = rw (is, length-append (zeros n) (drop n places), long) (omega arith)
 
--- ---- the first places made zero, one by one
-unfoldable pub zero_at : ℕ → List ℕ → List ℕ
-zero_at k places = set places k 0
+-- ---- so many equal values are so many zeros
+all_zero : (n i : ℕ) → replicate {A = ℕ} n 0 ≡ table (λ (_ : ℕ). 0) n i
+unfolding table
+all_zero zero i = refl
+all_zero (suc n) i = ap (λ (l : List ℕ). 0 ∷ l) (all_zero n (suc i))
 
-pub cleared : (n : ℕ) (places : List ℕ) → n ≤ length places → each zero_at n 0 places ≡ zeros n ++ drop n places
-unfolding zeros zero_at
-cleared n places h = each-table (λ (_ : ℕ). 0) n places h
+pub zeros_are : (n : ℕ) (places : List ℕ) {l : List ℕ} → n ≤ length places → l ≡ replicate (length (take n places)) 0 → l ≡ zeros n
+unfolding zeros
+zeros_are n places h e = e ∙ rw (length-take-le n places h) (all_zero n 0)
 
 module _ (row : List Bool) (phrases : List ℕ) (es : Edges) where
   -- and its next turn, for the word's own span and for another
@@ -128,16 +131,6 @@ module _ (row : List Bool) (phrases : List ℕ) (es : Edges) where
   room spans i p places few short h =
       let z : 0 + p ≡ p = omega arith in
       rw (entry (sofar row phrases es i) (drop spans places) spans 0 p h, z) (le_trans (sofar-most i p) (mul-le-mul few short))
-
--- ---- the code's store, by its test
-module _ (spans p n : ℕ) (places : List ℕ) where
-  pub added : {m : ℕ} → p < spans → m ≡ n → set places p (get_or places p 0 + m) ≡ added_at spans p n places
-  unfolding added_at
-  added h e = rw (lt-ltb p spans h, e)
-
-  pub not-added : spans ≤ p → places ≡ added_at spans p n places
-  unfolding added_at
-  not-added h = rw (le-ltb p spans h)
 
 -- ---- the code's pass: `now` is what the places hold after i words
 module _ (row : List Bool) (phrases : List ℕ) (es : Edges) (spans : ℕ) (places : List ℕ) where

@@ -1,15 +1,12 @@
 -- Document 01, "Tally": the loud frames under each span's words, and the call. A `row` says which frames are loud. Assumes nothing.
-use Rattle.std.specs.Prelude.{ℕ, suc, ◌+◌, Bool, false, cond, ◌&&◌, List, ◌++◌, leb, ltb, eqb, length, get_or, drop, Float}
+use Rattle.base.specs.Refusals.{Rule}
+use Rattle.std.specs.Prelude.{ℕ, suc, ◌+◌, Bool, false, cond, ◌&&◌, List, ◌++◌, leb, ltb, eqb, length, get_or, drop, Float, Ok, Err}
 use Rattle.base.specs.Whole.{to_nat}
 use Rattle.base.specs.Loop.{each, table}
 use Rattle.base.specs.Words.{Words, Spans, Edges, edges, times_at}
 use Rattle.base.specs.declared.Times.{Times}
-use Rattle.base.specs.declared.Rule.{Rule}
-use Rattle.base.specs.declared.Rule.TheVariants.{Fine, Breaks}
 use Rattle.frames.specs.Frames.{frame_from_zero}
 use Rattle.envelope.specs.Envelope.{loud_row}
-use Rattle.limits.specs.declared.Answer.{Answer}
-use Rattle.limits.specs.declared.Answer.TheVariants.{Accepted, Refused}
 use Rattle.word_calls.specs.Calls.{phrases_rule}
 
 -- ---- "the loud frames from start's frame to before end's frame, both from zero": these two frames, and whether a word lies over frame k.
@@ -42,16 +39,16 @@ tallies row phrases es spans = table (span_tally row phrases es) spans 0
 
 -- ---- What the call gives back, and what the lent places hold afterwards.
 pub record Output : Type 0 where
-  pub answer : Answer
+  pub answer : Rule
   pub places : List ℕ
 
-abbrev pub output : Answer → List ℕ → Output
+abbrev pub output : Rule → List ℕ → Output
 output a p = record { answer = a; places = p }
 
 -- ---- By what its tests find: the tallies of so many spans, and "further places stay"; or the places as they are.
 abbrev pub by_rule : Rule → List ℕ → ℕ → List ℕ → Output
-by_rule Fine given spans places = output Accepted (given ++ drop spans places)
-by_rule (Breaks r) given spans places = output (Refused r) places
+by_rule (Ok u) given spans places = output (Ok tt) (given ++ drop spans places)
+by_rule (Err r) given spans places = output (Err r) places
 
 -- ---- Refusals 3, 4, 1, 2, 7, 6, in this order. "Needs one place per span".
 unfoldable pub tally_call : Words → List ℕ → Spans → List Float → Float → ℕ → List ℕ → Output

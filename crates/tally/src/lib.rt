@@ -1,27 +1,15 @@
 // The loud frames under each span's words: document 01's tally.
 #![tactic(auto)]
 
-ghost use Rattle.std.specs.Prelude.{◌≡◌, ◌++◌, ◌+◌, ◌<◌, ◌≤◌, ◌^◌, length, get_or, take, drop};
+ghost use Rattle.std.specs.Prelude.{◌≡◌, ◌++◌, ◌<◌, ◌≤◌, ◌^◌, length, get_or, take, drop};
 ghost use Rattle.base.specs.Words.{words, spans, edges};
 ghost use Rattle.envelope.specs.Envelope.{loud_row};
 ghost use Rattle.tally.specs.Tally.{loud_under, tallies, output, tally_call};
-ghost use Rattle.tally.specs.Parts.{loud_turn, loud_between, added_at, zeros};
+ghost use Rattle.tally.specs.Parts.{loud_between, added_at, zeros};
 
-use base::{Rule, Times};
-use limits::Answer;
+use base::{Refusal, Times};
 
 pub mod view;
-
-// One frame more, where frame k is loud.
-fn counted(levels: &[f64], floor: f64, k: usize, n: usize) -> usize
-    requires { n ≤ 2 ^ 40 }
-    ensures { (result ≡ loud_turn (loud_row floor levels.now) k n) × (result ≤ n + 1) }
-{
-    if envelope::loud_at(levels, floor, k) {
-        return n + 1;
-    }
-    n
-}
 
 // How many frames from one to before another are loud.
 fn loud_count(levels: &[f64], floor: f64, from: usize, to: usize) -> usize
@@ -29,10 +17,11 @@ fn loud_count(levels: &[f64], floor: f64, from: usize, to: usize) -> usize
     ensures { (result ≡ loud_between (loud_row floor levels.now) from to) × (result ≤ to) }
 {
     let mut n = 0;
-    let mut k = from;
-    while k < to {
-        n = counted(levels, floor, k, n);
-        k += 1;
+    // A filter and count in its place is no loop that the compiler unrolls, and takes longer.
+    for k in from..to {
+        if envelope::loud_at(levels, floor, k) {
+            n += 1;
+        }
     }
     n
 }
@@ -43,7 +32,7 @@ fn loud_under(levels: &[f64], floor: f64, w: Times) -> usize
     ensures { (result ≡ loud_under (loud_row floor levels.now) w) × (result ≤ 2 ^ 40) }
 {
     let from = frames::frame_index(w.start);
-    let to = base::least(levels.len(), frames::frame_index(w.end));
+    let to = levels.len().min(frames::frame_index(w.end));
     loud_count(levels, floor, from, to)
 }
 
@@ -52,21 +41,18 @@ fn clear_places(places: &mut [usize], n: usize)
     requires { n ≤ length places.old }
     ensures { places.new ≡ zeros n ++ drop n places.old }
 {
-    let mut i = 0;
-    while i < n {
-        places[i] = 0;
-        i += 1;
-    }
+    places[..n].fill(0);
 }
 
 // Adds a word's loud frames at the place of its number p, where one of n spans has that number.
+#[tactic(auto, unfolding(crate::specs::Parts::added_at))]
 fn add_word(levels: &[f64], floor: f64, w: Times, p: u32, n: usize, places: &mut [usize])
     requires { (length levels.now ≤ 2 ^ 40) × ((n ≤ length places.old) × (p < n → get_or places.old p 0 ≤ 2 ^ 52)) }
     ensures { places.new ≡ added_at n p (loud_under (loud_row floor levels.now) w) places.old }
 {
     let at = p as usize;
     if at < n {
-        places[at] = places[at] + loud_under(levels, floor, w);
+        places[at] += loud_under(levels, floor, w);
     }
 }
 
@@ -88,14 +74,12 @@ fn add_words(
         places.new
         ≡ tallies (loud_row floor levels.now) phrases.now before n ++ drop n places.old }
 {
-    let mut i = 0;
-    while i < starts.len() {
+    for i in 0..starts.len() {
         let w = Times {
             start: starts[i],
             end: ends[i],
         };
         add_word(levels, floor, w, phrases[i], n, places);
-        i += 1;
     }
 }
 
@@ -114,13 +98,13 @@ pub fn tally_at(
     span_ends: &[f64],
     counts: &[u32],
     places: &mut [usize],
-) -> Answer
+) -> Result<(), Refusal>
     ensures { let before = words starts.now ends.now letters.now units.now keys.now in
         let all_spans = spans span_starts.now span_ends.now counts.now in
         output result places.new
         ≡ tally_call before phrases.now all_spans levels.now floor count places.old }
 {
-    let rule = word_calls::phrases_rule(
+    word_calls::phrases_rule(
         starts,
         ends,
         letters,
@@ -134,21 +118,16 @@ pub fn tally_at(
         count,
         places.len(),
         span_starts.len(),
+    )?;
+    clear_places(places, span_starts.len());
+    add_words(
+        levels,
+        floor,
+        starts,
+        ends,
+        phrases,
+        span_starts.len(),
+        places,
     );
-    match rule {
-        Rule::Breaks(why) => Answer::Refused(why),
-        Rule::Fine => {
-            clear_places(places, span_starts.len());
-            add_words(
-                levels,
-                floor,
-                starts,
-                ends,
-                phrases,
-                span_starts.len(),
-                places,
-            );
-            Answer::Accepted
-        }
-    }
+    Ok(())
 }

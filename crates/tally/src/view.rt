@@ -3,8 +3,8 @@ ghost use Rattle.std.specs.Prelude.{◌≡◌};
 ghost use Rattle.base.specs.Words.{words, spans};
 ghost use Rattle.tally.specs.Tally.{output, tally_call};
 
+use base::Refusal;
 use envelope::view::Envelope;
-use limits::Answer;
 
 // The tally of each span's words, by the sound of the recording whose envelope is e (document 01, Tally).
 pub fn tally<'a>(
@@ -19,7 +19,7 @@ pub fn tally<'a>(
     span_ends: &[f64],
     counts: &[u32],
     places: &mut [usize],
-) -> Answer
+) -> Result<(), Refusal>
     ensures { let before = words starts.now ends.now letters.now units.now keys.now in
         let all_spans = spans span_starts.now span_ends.now counts.now in
         output result places.new

@@ -1,4 +1,3 @@
 -- Laws of the calls on words.
-pub mod Uneven
 pub mod Within
 pub mod Moved

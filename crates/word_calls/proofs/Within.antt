@@ -1,4 +1,5 @@
 -- The limits of document 01 in plain words: no test applies exactly when all is within them. By reading each test. Assumes nothing.
+use Rattle.std.specs.Prelude.{Result, Ok, Err, is_err}
 use Prim.Native.Nat.{ℕ, zero, suc, ◌/◌, ◌≤◌, ◌<◌}
 use mathlib.Core.Path.{◌≡◌, refl, sym, ap, ◌∙◌}
 use mathlib.Core.Bool.{Bool, true, false, cond, not, ◌&&◌, ◌||◌, true≢false}
@@ -12,19 +13,19 @@ use lib.Ieee.{Float, nan, inf, fin, le}
 use Rattle.base.specs.Words.{Words, Spans, count}
 use Rattle.base.specs.Parts.{OneLength}
 use Rattle.base.specs.declared.Refusal.TheVariants.{Time, Letters, Lengths, Counts, Places, Levels}
-use Rattle.base.specs.Refusals.{None}
-use Rattle.limits.specs.Limits.{least, most, time_of, limit_of, is_fine, bad_time, bad_limit, any, outside}
+use Rattle.base.specs.Refusals.{NoneApplies}
+use Rattle.limits.specs.Limits.{least, most, time_of, limit_of, bad_time, bad_limit, any, outside}
 use Rattle.limits.specs.Order.{in_order}
 use Rattle.limits.proofs.Joined.{neither, both-not, when-exactly, also-exactly}
 use Rattle.word_calls.specs.Within.{Within, LimitWithin, AllWithin, AllFrom, WordsWithin, SpansWithin}
 use Rattle.word_calls.specs.Calls.{uneven, of_words, of_samples, of_levels, of_time, of_limit, uneven_spans, many_spans, of_spans, of_places, of_list}
-use Rattle.limits.specs.declared.times.TimeTest.{TimeTest}
-use Rattle.limits.specs.declared.times.TimeTest.TheVariants as time
+use Rattle.limits.specs.declared.times.NoTime.{NoTime}
+use Rattle.limits.specs.declared.times.NoTime.TheVariants.{Outside}
 use Rattle.limits.proofs.Finite.{time-fine}
 
 -- ---- a time within its range, and a limit for evening: such a time, or +infinity
 pub within-fine : (t : Float) → Within t → bad_time t ≡ false
-within-fine t h = ap (λ (x : TimeTest). not (is_fine x)) (sym (time-fine t h.0 h.1))
+within-fine t h = ap (λ (x : Result (Unit {0}) NoTime). is_err x) (sym (time-fine t h.0 h.1))
 
 pub fine-within : (t : Float) → bad_time t ≡ false → Within t
 unfolding time_of
@@ -32,7 +33,7 @@ fine-within nan h = absurd (true≢false h)
 fine-within (inf s) h = absurd (true≢false h)
 fine-within (fin s m e) h = go (le least (fin s m e)) (le (fin s m e) most) h
   where
-    go : (a b : Bool) → not (is_fine (cond (a && b) time.Fine time.Outside)) ≡ false → (a ≡ true) × (b ≡ true)
+    go : (a b : Bool) → is_err (cond (a && b) (Ok (tt {0})) (Err Outside)) ≡ false → (a ≡ true) × (b ≡ true)
     go true true k = (refl, refl)
     go true false k = absurd (true≢false k)
     go false b k = absurd (true≢false k)
@@ -112,7 +113,7 @@ either-exactly p q = (λ h. both-not (p.0 h.0) (q.0 h.1), λ h. let t = neither 
 
 -- ---- a word list
 words-tests : (ws : Words) → (((length ws.ends ≡ length ws.starts) × ((length ws.letters ≡ length ws.starts) × ((length ws.units ≡ length ws.starts) × (length ws.keys ≡ length ws.starts))))
-    × ((length ws.starts ≤ 4096) × ((AllWithin ws.starts × AllWithin ws.ends) × (AllFrom 1 1000 ws.letters × AllFrom 1 10000 ws.units)))) ↔ None (in_order (of_words ws))
+    × ((length ws.starts ≤ 4096) × ((AllWithin ws.starts × AllWithin ws.ends) × (AllFrom 1 1000 ws.letters × AllFrom 1 10000 ws.units)))) ↔ NoneApplies (in_order (of_words ws))
 unfolding of_words uneven
 words-tests ws =
     let n = length ws.starts in
@@ -122,16 +123,16 @@ words-tests ws =
     (also-exactly _ _ (when-exactly Time (λ e. omega (arith, e)) (times-exactly ws.starts ws.ends))
     (when-exactly Letters (λ e. omega (arith, e)) (either-exactly (numbers-exactly 1 1000 ws.letters) (numbers-exactly 1 10000 ws.units)))))
 
-pub words-exactly : (ws : Words) → WordsWithin ws ↔ None (in_order (of_words ws))
+pub words-exactly : (ws : Words) → WordsWithin ws ↔ NoneApplies (in_order (of_words ws))
 words-exactly ws = (to, from)
   where
-    to : WordsWithin ws → None (in_order (of_words ws))
+    to : WordsWithin ws → NoneApplies (in_order (of_words ws))
     to w = (words-tests ws).0 (
       (w.ends-as-long, (w.letters-as-long, (w.units-as-long, w.keys-as-long))),
       (w.few, ((w.starts-within, w.ends-within), (w.letters-from-1, w.units-from-1))),
     )
 
-    from : None (in_order (of_words ws)) → WordsWithin ws
+    from : NoneApplies (in_order (of_words ws)) → WordsWithin ws
     from n =
         let t = (words-tests ws).1 n in
         record {
@@ -147,26 +148,26 @@ words-exactly ws = (to, from)
         }
 
 -- ---- at most an hour of samples, and a level for each frame
-pub samples-exactly : (samples : ℕ) → (samples ≤ 57600000) ↔ None (in_order (of_samples samples))
+pub samples-exactly : (samples : ℕ) → (samples ≤ 57600000) ↔ NoneApplies (in_order (of_samples samples))
 unfolding of_samples
 samples-exactly samples = when-exactly Counts (λ e. omega (arith, e)) (most-exactly 57600000 samples)
 
-pub levels-exactly : (levels samples : ℕ) → ((samples ≤ 57600000) × (levels ≡ samples / 160)) ↔ None (in_order (of_levels levels samples))
+pub levels-exactly : (levels samples : ℕ) → ((samples ≤ 57600000) × (levels ≡ samples / 160)) ↔ NoneApplies (in_order (of_levels levels samples))
 unfolding of_levels
 levels-exactly levels samples = also-exactly _ _ (samples-exactly samples) (when-exactly Levels (λ e. omega (arith, e)) (differs-exactly levels (samples / 160)))
 
 -- ---- a time that is no word's, and a limit for evening
-pub time-exactly : (t : Float) → Within t ↔ None (in_order (of_time t))
+pub time-exactly : (t : Float) → Within t ↔ NoneApplies (in_order (of_time t))
 unfolding of_time
 time-exactly t = when-exactly Time (λ e. omega (arith, e)) (within-fine t, fine-within t)
 
-pub limit-exactly : (t : Float) → LimitWithin t ↔ None (in_order (of_limit t))
+pub limit-exactly : (t : Float) → LimitWithin t ↔ NoneApplies (in_order (of_limit t))
 unfolding of_limit
 limit-exactly t = when-exactly Time (λ e. omega (arith, e)) (within-limit t, limit-within t)
 
 -- ---- a list of spans
 spans-tests : (sp : Spans) → (((length sp.ends ≡ length sp.starts) × (length sp.counts ≡ length sp.starts))
-    × (((length sp.starts ≤ 4096) × AllFrom 0 4096 sp.counts) × (AllWithin sp.starts × AllWithin sp.ends))) ↔ None (in_order (of_spans sp))
+    × (((length sp.starts ≤ 4096) × AllFrom 0 4096 sp.counts) × (AllWithin sp.starts × AllWithin sp.ends))) ↔ NoneApplies (in_order (of_spans sp))
 unfolding of_spans uneven_spans many_spans
 spans-tests sp =
     let n = length sp.starts in
@@ -174,13 +175,13 @@ spans-tests sp =
     (also-exactly _ _ (when-exactly Counts (λ e. omega (arith, e)) (either-exactly (most-exactly 4096 n) (numbers-exactly 0 4096 sp.counts)))
     (when-exactly Time (λ e. omega (arith, e)) (times-exactly sp.starts sp.ends)))
 
-pub spans-exactly : (sp : Spans) → SpansWithin sp ↔ None (in_order (of_spans sp))
+pub spans-exactly : (sp : Spans) → SpansWithin sp ↔ NoneApplies (in_order (of_spans sp))
 spans-exactly sp = (to, from)
   where
-    to : SpansWithin sp → None (in_order (of_spans sp))
+    to : SpansWithin sp → NoneApplies (in_order (of_spans sp))
     to w = (spans-tests sp).0 ((w.ends-as-long, w.counts-as-long), ((w.few, w.counts-to-4096), (w.starts-within, w.ends-within)))
 
-    from : None (in_order (of_spans sp)) → SpansWithin sp
+    from : NoneApplies (in_order (of_spans sp)) → SpansWithin sp
     from n =
         let t = (spans-tests sp).1 n in
         record {
@@ -193,11 +194,11 @@ spans-exactly sp = (to, from)
         }
 
 -- ---- so many places, of which so many are needed
-pub places-exactly : (places need : ℕ) → (need ≤ places) ↔ None (in_order (of_places places need))
+pub places-exactly : (places need : ℕ) → (need ≤ places) ↔ NoneApplies (in_order (of_places places need))
 unfolding of_places
 places-exactly places need = when-exactly Places (λ e. omega (arith, e)) (most-exactly places need)
 
 -- ---- one list more that belongs to the words
-pub list-exactly : (list words : ℕ) → (list ≡ words) ↔ None (in_order (of_list list words))
+pub list-exactly : (list words : ℕ) → (list ≡ words) ↔ NoneApplies (in_order (of_list list words))
 unfolding of_list
 list-exactly list words = when-exactly Lengths (λ e. omega (arith, e)) (differs-exactly list words)

@@ -1,14 +1,11 @@
 -- Calls on words: which refusals apply, and what a call answers and leaves that moves only times. Assumes nothing.
-use Rattle.std.specs.Prelude.{ℕ, ◌≡◌, Bool, ◌||◌, length, Float}
+use Rattle.base.specs.Refusals.{Rule}
+use Rattle.std.specs.Prelude.{ℕ, ◌≡◌, Bool, ◌||◌, length, Float, Ok, Err}
 use Rattle.base.specs.Words.{Words, Spans, Edges, with_edges}
 use Rattle.base.specs.declared.Refusal.TheVariants.{Time, Letters, Lengths, Counts, Places, Levels}
-use Rattle.base.specs.declared.Rule.{Rule}
-use Rattle.base.specs.declared.Rule.TheVariants.{Fine, Breaks}
 use Rattle.limits.specs.Limits.{differ, many, many_samples, few_places, other_levels, bad_time, bad_limit, bad_word_times, bad_span_times, bad_letters, bad_counts}
 use Rattle.limits.specs.Order.{when, also, chain}
 use Rattle.limits.specs.declared.Applies.{Applies}
-use Rattle.limits.specs.declared.Answer.{Answer}
-use Rattle.limits.specs.declared.Answer.TheVariants.{Accepted, Refused}
 
 -- ---- 3: of a word's five lists, one is not as long as the starts.
 unfoldable pub uneven : ℕ → ℕ → ℕ → ℕ → ℕ → Bool
@@ -99,16 +96,16 @@ phrases_rule ws phrases sp levels samples places need = chain (phrases_applies w
 
 -- ---- What a call gives back that moves the words' times, and what the words are afterwards.
 pub record Output : Type 0 where
-  pub answer : Answer
+  pub answer : Rule
   pub words : Words
 
-abbrev pub output : Answer → Words → Output
+abbrev pub output : Rule → Words → Output
 output a ws = record { answer = a; words = ws }
 
 -- ---- By what its tests find: the words with their new edges, or the words as they are.
 abbrev pub moved : Rule → Edges → Words → Output
-moved Fine es ws = output Accepted (with_edges es ws)
-moved (Breaks r) es ws = output (Refused r) ws
+moved (Ok u) es ws = output (Ok tt) (with_edges es ws)
+moved (Err r) es ws = output (Err r) ws
 
 -- ---- What no such call changes: letters, units and keys.
 pub record Keeps (before after : Words) : Type 0 where

@@ -6,23 +6,18 @@ ghost use Rattle.base.specs.Words.{words, spans};
 ghost use Rattle.word_calls.specs.Calls.{uneven, of_words, of_samples, of_levels, of_time, of_limit, uneven_spans, many_spans, of_spans, of_places, of_list};
 ghost use Rattle.word_calls.specs.Calls.{sound_rule, timed_rule, limit_rule, spans_rule, phrases_rule};
 
-use base::{Refusal, Rule};
+use base::Refusal;
 use limits::Applies;
 
 // Whether one of a word's five lists is not as long as the starts (refusal 3).
+#[tactic(auto, unfolding(crate::specs::Calls::uneven))]
 fn lists_differ(starts: usize, ends: usize, letters: usize, units: usize, keys: usize) -> bool
     ensures { result ≡ uneven starts ends letters units keys }
 {
-    if limits::sizes::differ_in_length(ends, starts) {
-        return true;
-    }
-    if limits::sizes::differ_in_length(letters, starts) {
-        return true;
-    }
-    if limits::sizes::differ_in_length(units, starts) {
-        return true;
-    }
-    limits::sizes::differ_in_length(keys, starts)
+    limits::sizes::differ_in_length(ends, starts)
+        || limits::sizes::differ_in_length(letters, starts)
+        || limits::sizes::differ_in_length(units, starts)
+        || limits::sizes::differ_in_length(keys, starts)
 }
 
 // What applies of a word list: 3, 4, 1, 2.
@@ -134,7 +129,7 @@ pub fn sound_rule(
     keys: &[u32],
     levels: usize,
     samples: usize,
-) -> Rule
+) -> Result<(), Refusal>
     ensures { let before = words starts.now ends.now letters.now units.now keys.now in
         result ≡ sound_rule before levels samples }
 {
@@ -152,7 +147,7 @@ pub fn timed_rule(
     levels: usize,
     samples: usize,
     duration: f64,
-) -> Rule
+) -> Result<(), Refusal>
     ensures { let before = words starts.now ends.now letters.now units.now keys.now in
         result ≡ timed_rule before levels samples duration }
 {
@@ -169,7 +164,7 @@ pub fn limit_rule(
     units: &[u32],
     keys: &[u32],
     limit: f64,
-) -> Rule
+) -> Result<(), Refusal>
     ensures { let before = words starts.now ends.now letters.now units.now keys.now in
         result ≡ limit_rule before limit }
 {
@@ -189,7 +184,7 @@ pub fn spans_rule(
     counts: &[u32],
     places: usize,
     need: usize,
-) -> Rule
+) -> Result<(), Refusal>
     ensures { let before = words starts.now ends.now letters.now units.now keys.now in
         let all_spans = spans span_starts.now span_ends.now counts.now in
         result ≡ spans_rule before all_spans places need }
@@ -217,7 +212,7 @@ pub fn phrases_rule(
     samples: usize,
     places: usize,
     need: usize,
-) -> Rule
+) -> Result<(), Refusal>
     ensures { let before = words starts.now ends.now letters.now units.now keys.now in
         let all_spans = spans span_starts.now span_ends.now counts.now in
         result ≡ phrases_rule before phrases all_spans levels samples places need }

@@ -4,4 +4,4 @@ use Rattle.c_api.proofs.qiluvrait_align_phrases.Goals as goal
 
 pub returns : goal.returns
 returns c =
-    placement-made _ _ c.placed.ensures c.align_phrases-answer.ensures
+    placement-made _ _ c.from.ensures c.align_phrases-answer.ensures

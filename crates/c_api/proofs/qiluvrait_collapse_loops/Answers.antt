@@ -4,4 +4,4 @@ use Rattle.c_api.proofs.qiluvrait_collapse_loops.Goals as goal
 
 pub returns : goal.returns
 returns c =
-    leaves-made _ c.left.ensures c.collapse_loops-answer.ensures
+    leaves-made _ c.from.ensures c.collapse_loops-answer.ensures

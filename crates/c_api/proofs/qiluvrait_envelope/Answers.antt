@@ -7,4 +7,4 @@ use Rattle.c_api.proofs.qiluvrait_envelope.Goals as goal
 pub returns : goal.returns
 returns c =
     let e = c.envelope.ensures in
-    (c.heard.ensures ∙ ap (λ (o : Output). heard_of o.answer) e, ap (λ (o : Output). o.places) e)
+    (c.from.ensures ∙ ap (λ (o : Output). heard_of o.answer) e, ap (λ (o : Output). o.places) e)

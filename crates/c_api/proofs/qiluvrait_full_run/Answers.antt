@@ -4,9 +4,9 @@ use Rattle.c_api.proofs.qiluvrait_full_run.Goals as goal
 
 pub returns : goal.returns
 returns c = (
-  full-run-made _ _ _ _ _ c.reported.ensures c.full_run-answer.ensures.0,
+  full-run-made _ _ _ _ _ c.from.ensures c.full_run-answer.ensures.0,
   (
-    left-made _ c.reported.ensures c.full_run-answer.ensures.1.0,
-    (left-made _ c.reported.ensures c.full_run-answer.ensures.1.1.0, left-made _ c.reported.ensures c.full_run-answer.ensures.1.1.1),
+    left-made _ c.from.ensures c.full_run-answer.ensures.1.0,
+    (left-made _ c.from.ensures c.full_run-answer.ensures.1.1.0, left-made _ c.from.ensures c.full_run-answer.ensures.1.1.1),
   ),
 )

@@ -4,4 +4,4 @@ use Rattle.c_api.specs.Answers.{level_of}
 use Rattle.c_api.proofs.qiluvrait_peak.Goals as goal
 
 pub returns : goal.returns
-returns c = c.level.ensures ∙ ap level_of c.peak.ensures
+returns c = c.from.ensures ∙ ap level_of c.peak.ensures

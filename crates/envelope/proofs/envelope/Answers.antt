@@ -1,15 +1,14 @@
 -- `envelope::envelope` meets its contract: what the tests found decides. Assumes nothing.
 use Rattle.std.proofs.Common.{sym, ◌∙◌}
+use Rattle.base.proofs.First.{refused}
 use Rattle.envelope.proofs.Limits.{fine-limits, call_by}
 use Rattle.envelope.proofs.envelope.Goals as goal
 
+pub returns-in_err-judge : goal.returns-in_err-judge
+returns-in_err-judge c = rw (refused _ c.from_residual.ensures.1) (sym (call_by _ _ (sym c.in_err-judge.ensures)))
+
 pub accept-requires : goal.accept-requires
-accept-requires c = fine-limits _ _ (sym c.judge-rule.ensures ∙ c.in-Fine.is)
+accept-requires c = fine-limits _ _ (sym c.in_ok-judge.ensures)
 
-pub returns-in-Fine : goal.returns-in-Fine
-returns-in-Fine c =
-    c.accept.ensures
-    ∙ sym (call_by _ _ (sym c.judge-rule.ensures ∙ c.in-Fine.is))
-
-pub returns-in-Breaks : goal.returns-in-Breaks
-returns-in-Breaks c = sym (call_by _ _ (sym c.judge-rule.ensures ∙ c.in-Breaks.is))
+pub returns : goal.returns
+returns c = c.accept.ensures ∙ sym (call_by _ _ (sym c.in_ok-judge.ensures))

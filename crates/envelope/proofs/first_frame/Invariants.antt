@@ -1,9 +1,6 @@
-use Rattle.std.proofs.Common.{◌≡◌, ℕ, ◌-◌, ◌<◌, ◌≤◌, max, not, pos}
+use Rattle.std.proofs.Common.{◌≡◌, ℕ, ◌<◌, ◌≤◌, not, pos}
 use Rattle.envelope.specs.Envelope.{loud, loud_row}
 use Rattle.envelope.proofs.first_frame.Given as goal
 
 abbrev pub invariant-loop-k : goal.invariant-loop-k
-invariant-loop-k l = (l.lo ≤ l.k) × ((l.k ≤ max l.lo l.hi) × ((j : ℕ) → l.lo ≤ j → j < l.k → loud (loud_row l.floor l.levels) (pos j) ≡ not l.want))
-
-abbrev pub decreases-loop-k : goal.decreases-loop-k
-decreases-loop-k l = l.hi - l.k
+invariant-loop-k l = (j : ℕ) → l.lo ≤ j → j < l.k → loud (loud_row l.floor l.levels) (pos j) ≡ not l.want

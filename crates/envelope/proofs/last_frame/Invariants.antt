@@ -3,7 +3,4 @@ use Rattle.envelope.specs.Envelope.{loud, loud_row}
 use Rattle.envelope.proofs.last_frame.Given as goal
 
 abbrev pub invariant-loop-k : goal.invariant-loop-k
-invariant-loop-k l = (l.k ≤ l.hi) × ((j : ℕ) → l.k ≤ j → j < l.hi → loud (loud_row l.floor l.levels) (pos j) ≡ false)
-
-abbrev pub decreases-loop-k : goal.decreases-loop-k
-decreases-loop-k l = l.k
+invariant-loop-k l = (j : ℕ) → l.k ≤ j → j < l.hi → loud (loud_row l.floor l.levels) (pos j) ≡ false

@@ -1,4 +1,5 @@
 -- `fit_file::fit_file_at` meets its contract, by what the tests found. Assumes nothing.
+use Rattle.base.proofs.First.{refused}
 use mathlib.Core.Path.{refl}
 use Rattle.fit_file.specs.FitFile.{Unchanged}
 use Rattle.fit_file.proofs.Calls.{refused-made, short, ready, accepted-made}
@@ -6,23 +7,22 @@ use Rattle.fit_file.proofs.fit_file_at.Goals as goal
 
 pub duration_of-requires : goal.duration_of-requires
 duration_of-requires c =
-    short _ _ _ _ _ _ _ _ c.least.ensures c.least-places.ensures c.phrases_rule-rule.ensures c.in-Fine.is
+    short _ _ _ _ _ _ _ _ c.min.ensures c.min-places.ensures c.in_ok-phrases_rule.ensures refl
 
 pub fit_phrases-requires : goal.fit_phrases-requires
 fit_phrases-requires c =
-    ready _ _ _ _ _ _ _ _ c.least.ensures c.least-places.ensures c.phrases_rule-rule.ensures c.in-Fine.is
+    ready _ _ _ _ _ _ _ _ c.min.ensures c.min-places.ensures c.in_ok-phrases_rule.ensures refl
 
-pub returns-in-Breaks : goal.returns-in-Breaks
+pub returns-in_err-phrases_rule : goal.returns-in_err-phrases_rule
 unfolding Unchanged
-returns-in-Breaks c = (
-  refused-made _ _ _ _ _ _ _ _ _ c.least.ensures c.least-places.ensures c.phrases_rule-rule.ensures _ c.in-Breaks.is,
+returns-in_err-phrases_rule c = rw (refused _ c.from_residual.ensures.1) (
+  refused-made _ _ _ _ _ _ _ _ _ c.min.ensures c.min-places.ensures c.in_err-phrases_rule.ensures refl refl,
   (refl, (refl, refl)),
 )
 
-pub returns-in-Fine : goal.returns-in-Fine
+pub returns : goal.returns
 unfolding Unchanged
-returns-in-Fine c = (
-  accepted-made _ _ _ _ _ _ _ _ _ c.least.ensures c.least-places.ensures c.phrases_rule-rule.ensures _
-      _ c.in-Fine.is c.duration_of.ensures c.fit_phrases.ensures,
+returns c = (
+  accepted-made _ _ _ _ _ _ _ _ _ c.min.ensures c.min-places.ensures c.in_ok-phrases_rule.ensures _ _ refl c.duration_of.ensures c.fit_phrases.ensures,
   (tt, (tt, tt)),
 )

@@ -2,15 +2,16 @@
 use Rattle.std.proofs.Common.{ℕ, ◌-◌, ◌^◌, min, pos, neg_ℤ, sym, ap, ◌∙◌}
 use lib.Ieee.{of_bits}
 use Rattle.frames.proofs.Signed.{read_back}
-use Rattle.frames.proofs.Rounding.{ceil-sign}
+use Rattle.frames.proofs.Rounding.{minus-saturated, ceil-sign}
 use Rattle.frames.proofs.ceil_i64.Goals as goal
 
 pub returns-then-x : goal.returns-then-x
 unfolding of_bits
 returns-then-x c =
-    read_back c.minus_to_i64.result c.minus_to_i64.type_inv
-    ∙ c.minus_to_i64.ensures
-    ∙ ap (λ (n : ℕ). neg_ℤ (pos (min n (2 ^ 63)))) c.truncated.ensures
+    read_back c.saturating_sub_unsigned.result c.saturating_sub_unsigned.type_inv
+    ∙ c.saturating_sub_unsigned.ensures
+    ∙ minus-saturated c.saturating_f64_to_u64.result
+    ∙ ap (λ (n : ℕ). neg_ℤ (pos (min n (2 ^ 63)))) c.saturating_f64_to_u64.ensures
     ∙ sym (ceil-sign c.args.x ∙ rw c.if-x.true)
 
 pub returns : goal.returns

@@ -9,4 +9,4 @@ pub returns : goal.returns
 unfolding frame_ceil
 returns c =
     let k = c.ceil_whole.ensures ∙ ap ceil_unsigned c.in_frames.ensures in
-    omega (arith, k, ceil-nat (in_frames c.args.t), c.index.ensures)
+    omega (arith, k, ceil-nat (in_frames c.args.t), c.min.ensures)

@@ -8,5 +8,5 @@ use Rattle.frames.proofs.frame_index.Goals as goal
 pub returns : goal.returns
 unfolding frame_at
 returns c =
-    let k = c.truncated.ensures ∙ ap (to_unsigned 64) c.in_frames.ensures in
-    omega (arith, k, floor-nat (in_frames c.args.t), c.index.ensures)
+    let k = c.saturating_f64_to_u64.ensures ∙ ap (to_unsigned 64) c.in_frames.ensures in
+    omega (arith, k, floor-nat (in_frames c.args.t), c.min.ensures)

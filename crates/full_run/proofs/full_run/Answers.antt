@@ -1,4 +1,5 @@
 -- `full_run::full_run` meets its contract, by what the tests found. Assumes nothing.
+use Rattle.base.proofs.First.{refused}
 use native.Mathlib.Omega.{arith}
 use mathlib.Core.Path.{refl}
 use lib.ListN.{length}
@@ -17,8 +18,8 @@ hear-floor-requires c =
     (length args.work_ends.now) (length args.work_letters.now)
     (all-fine args.samples.now words1 spans1 args.phrases.now args.levels.now
     args.piece_starts.now args.piece_ends.now (length args.work_starts.now)
-    (length args.work_ends.now) (length args.work_letters.now) c.least.ensures
-    c.least-2.ensures c.least-3.ensures c.judge-rule.ensures c.in-Fine.is)
+    (length args.work_ends.now) (length args.work_letters.now) c.min.ensures
+    c.min-2.ensures c.min-3.ensures c.in_ok-judge.ensures refl)
 
 pub slice_bounds-after_levels-end : goal.slice_bounds-after_levels-end
 slice_bounds-after_levels-end c =
@@ -33,8 +34,8 @@ slice_bounds-after_levels-end c =
           (length args.work_ends.now) (length args.work_letters.now)
           (all-fine args.samples.now words1 spans1 args.phrases.now args.levels.now
           args.piece_starts.now args.piece_ends.now (length args.work_starts.now)
-          (length args.work_ends.now) (length args.work_letters.now) c.least.ensures
-          c.least-2.ensures c.least-3.ensures c.judge-rule.ensures c.in-Fine.is)).1,
+          (length args.work_ends.now) (length args.work_letters.now) c.min.ensures
+          c.min-2.ensures c.min-3.ensures c.in_ok-judge.ensures refl)).1,
     )
 
 pub after_levels-out-requires : goal.after_levels-out-requires
@@ -47,22 +48,22 @@ after_levels-out-requires c =
     (length args.work_ends.now) (length args.work_letters.now)
     (all-fine args.samples.now words1 spans1 args.phrases.now args.levels.now
     args.piece_starts.now args.piece_ends.now (length args.work_starts.now)
-    (length args.work_ends.now) (length args.work_letters.now) c.least.ensures
-    c.least-2.ensures c.least-3.ensures c.judge-rule.ensures c.in-Fine.is)
+    (length args.work_ends.now) (length args.work_letters.now) c.min.ensures
+    c.min-2.ensures c.min-3.ensures c.in_ok-judge.ensures refl)
     c.hear-floor.ensures.0
 
-pub returns-in-Breaks : goal.returns-in-Breaks
+pub returns-in_err-judge : goal.returns-in_err-judge
 unfolding Unchanged
-returns-in-Breaks c = (
-  refused-made _ _ _ _ _ _ _ _ _ _ c.least.ensures c.least-2.ensures c.least-3.ensures c.judge-rule.ensures c.in-Breaks.is,
+returns-in_err-judge c = rw (refused _ c.from_residual.ensures.1) (
+  refused-made _ _ _ _ _ _ _ _ _ _ c.min.ensures c.min-2.ensures c.min-3.ensures c.in_err-judge.ensures refl,
   (refl, (refl, refl)),
 )
 
-pub returns-in-Fine : goal.returns-in-Fine
+pub returns : goal.returns
 unfolding Unchanged
-returns-in-Fine c = (
-  accepted-made _ _ _ _ _ _ _ _ _ _ c.least.ensures c.least-2.ensures c.least-3.ensures
-      c.judge-rule.ensures c.in-Fine.is
+returns c = (
+  accepted-made _ _ _ _ _ _ _ _ _ _ c.min.ensures c.min-2.ensures c.min-3.ensures
+      c.in_ok-judge.ensures refl
       (accept-is _ _ _ _ _ _ _ _ _ _ c.hear-floor.ensures c.after_levels-out.ensures),
   (tt, (tt, tt)),
 )

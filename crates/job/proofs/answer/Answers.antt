@@ -6,30 +6,6 @@ use mathlib.Core.Path.{sym, ◌∙◌}
 use native.Mathlib.Omega.{arith}
 use Rattle.job.proofs.answer.Goals as goal
 
-pub read_words-requires : goal.read_words-requires
-read_words-requires c =
-    let pre = c.requires in
-    (omega (arith, pre.whole), (pre.ends-as-long, (pre.letters-as-long, (pre.units-as-long, pre.keys-as-long))))
-
-pub overflow_mul-starts : goal.overflow_mul-starts
-overflow_mul-starts c =
-    omega (arith, c.requires.few, c.read_words.auto.starts)
-
-pub read_spans-requires : goal.read_spans-requires
-read_spans-requires c =
-    let pre = c.requires in
-    (omega (arith, pre.whole), (pre.span-ends-as-long, pre.counts-as-long))
-
-pub run_heard-answer-requires : goal.run_heard-answer-requires
-run_heard-answer-requires c =
-    let pre = c.requires in (
-      pre.own,
-      (
-        pre.piece-ends-five ∙ sym pre.piece-starts-five,
-        (pre.work-ends-as-long ∙ sym pre.work-starts-as-long, pre.work-letters-as-long ∙ sym pre.work-starts-as-long),
-      ),
-    )
-
 pub print-requires : goal.print-requires
 print-requires c =
     let args = c.args in
@@ -38,7 +14,7 @@ print-requires c =
     (words c.read_words.new.starts c.read_words.new.ends c.read_words.new.letters
     c.read_words.new.units c.read_words.new.keys)
     (spans c.read_spans.new.starts c.read_spans.new.ends c.read_spans.new.counts)
-    c.clear.new.numbers args.piece_starts.now args.piece_ends.now (length args.work_starts.now)
+    c.fill.new.self args.piece_starts.now args.piece_ends.now (length args.work_starts.now)
     c.run_heard-answer.result
     (words c.run_heard-answer.new.starts c.run_heard-answer.new.ends
     c.run_heard-answer.new.letters c.run_heard-answer.new.units
@@ -61,7 +37,7 @@ print-requires c =
     (omega (
       arith,
       c.run_heard-answer.auto.phrases,
-      c.clear.auto.numbers,
+      c.fill.auto.self,
       pre.phrases-as-long,
       c.read_words.auto.keys,
       pre.keys-as-long,
@@ -75,12 +51,12 @@ returns c =
     let pre = c.requires in (
       λ file h. text-is file _ _ _ _ _ h
           (words c.read_words.new.starts c.read_words.new.ends c.read_words.new.letters c.read_words.new.units c.read_words.new.keys)
-          (spans c.read_spans.new.starts c.read_spans.new.ends c.read_spans.new.counts) c.clear.new.numbers
+          (spans c.read_spans.new.starts c.read_spans.new.ends c.read_spans.new.counts) c.fill.new.self
           args.piece_starts.now args.piece_ends.now (length args.work_starts.now) (length args.phrases.now) _ _ c.run_heard-answer.result
           (words c.run_heard-answer.new.starts c.run_heard-answer.new.ends c.run_heard-answer.new.letters c.run_heard-answer.new.units c.run_heard-answer.new.keys)
           c.run_heard-answer.new.phrases c.run_heard-answer.new.piece_starts
           c.run_heard-answer.new.piece_ends c.read_words.ensures c.read_spans.ensures c.read_words.auto.starts
-          c.clear.ensures (omega (arith, pre.phrases-as-long, c.read_words.auto.keys, pre.keys-as-long))
+          (c.fill.ensures.after (λ y h. h)) (omega (arith, pre.phrases-as-long, c.read_words.auto.keys, pre.keys-as-long))
           (omega (arith, pre.work-starts-as-long, c.read_words.auto.keys, pre.keys-as-long)) c.read_spans.auto.starts
           pre.piece-starts-five c.run_heard-answer.ensures c.print.ensures.0,
       c.print.ensures.1,

@@ -4,20 +4,20 @@ use Rattle.job.proofs.print.Goals as goal
 
 pub put_refused-requires : goal.put_refused-requires
 put_refused-requires c =
-    refused-fits _ _ _ _ _ _ _ c.requires c.in-Refused.is
+    refused-fits _ _ _ _ _ _ _ c.requires c.in-Err.is
 
 pub put_pieces-pieces-requires : goal.put_pieces-pieces-requires
 put_pieces-pieces-requires c =
-    pieces-fit _ _ _ _ _ _ _ c.requires _ c.in-Accepted.is
+    pieces-fit _ _ _ _ _ _ _ c.requires _ c.in-Ok.is
 
 pub put_words-requires : goal.put_words-requires
 put_words-requires c =
-    words-fit _ _ _ _ _ _ _ c.requires _ c.in-Accepted.is c.put_pieces-pieces.ensures.1 c.put_pieces-pieces.auto.out
+    words-fit _ _ _ _ _ _ _ c.requires _ c.in-Ok.is c.put_pieces-pieces.ensures.1 c.put_pieces-pieces.auto.out
 
-pub returns-in-Refused : goal.returns-in-Refused
-returns-in-Refused c =
-    refused-written _ _ _ _ _ _ _ c.requires _ c.in-Refused.is c.number.ensures c.put_refused.ensures
+pub returns-in-Err : goal.returns-in-Err
+returns-in-Err c =
+    refused-written _ _ _ _ _ _ _ c.requires _ c.in-Err.is c.from.ensures c.put_refused.ensures
 
-pub returns-in-Accepted : goal.returns-in-Accepted
-returns-in-Accepted c =
-    accepted-written _ _ _ _ _ _ _ c.requires _ _ c.in-Accepted.is c.put_pieces-pieces.ensures c.put_words.ensures
+pub returns-in-Ok : goal.returns-in-Ok
+returns-in-Ok c =
+    accepted-written _ _ _ _ _ _ _ c.requires _ _ c.in-Ok.is c.put_pieces-pieces.ensures c.put_words.ensures

@@ -1,12 +1,11 @@
 use Rattle.job_io.proofs.Hearing.{Hearing}
-use lib.ListN.{length}
-use mathlib.Core.Path.{◌≡◌}
 use Prim.Native.Nat.{◌-◌, ◌≤◌}
 use Rattle.job_io.proofs.hear.Given as goal
 
 abbrev pub invariant-loop-done : goal.invariant-loop-done
 invariant-loop-done g l =
-    (l.done ≤ l.count) × ((length l.bytes ≡ length l.initial.bytes) × ((length l.samples ≡ length l.initial.samples) × ((length l.levels ≡ length l.initial.levels) × Hearing (g.R.Read.remaining l.initial.from) (g.R.Read.remaining l.from) l.count l.done l.came l.bytes l.initial.levels l.levels)))
+    (l.done ≤ l.count)
+    × Hearing (g.R.Read.remaining l.initial.from) (g.R.Read.remaining l.from) l.count l.done l.came l.bytes l.initial.levels l.levels
 
 abbrev pub decreases-loop-done : goal.decreases-loop-done
 decreases-loop-done g l = l.count - l.done

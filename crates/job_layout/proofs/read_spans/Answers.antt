@@ -1,17 +1,15 @@
--- `job_layout::read_spans` meets its contract: what is left of the stores of each list, from where the loop stands, gives the whole. Assumes nothing.
-use mathlib.Core.Path.{refl}
-use Rattle.job_layout.proofs.Filling.{spans-alike, fill_none, fill-next, fill-all}
-use Rattle.job_layout.proofs.Bytes.{at_byte}
-use Rattle.job_layout.specs.Layout.{f64_at, u32_at, spans_from, column}
-use native.Mathlib.Omega.{arith}
+-- `job_layout::read_spans` meets its contract: the places of each list hold a table. Assumes nothing.
+use Rattle.std.proofs.Common.{arith}
+use Rattle.std.specs.Float.{nan}
+use Rattle.job_layout.proofs.Filling.{tabled, spans-alike}
+use Rattle.job_layout.specs.Layout.{spans_from, column}
 use Rattle.job_layout.proofs.read_spans.Goals as goal
-
-pub loop-i-init : goal.loop-i-init
-loop-i-init c = (omega arith, (fill_none _ _, (fill_none _ _, fill_none _ _)))
-
-pub loop-i-preserved : goal.loop-i-preserved
-loop-i-preserved c = let h = c.loop-i.invariant in (omega arith, (fill-next _ _ h.1.0 (omega arith) (at_byte f64_at _ c.f64_at.ensures (omega arith)), (fill-next _ _ h.1.1.0 (omega arith) (at_byte f64_at _ c.f64_at-in-loop-i.ensures (omega arith)), fill-next _ _ h.1.1.1 (omega arith) (at_byte u32_at _ c.u32_at.ensures (omega arith)))))
 
 pub returns : goal.returns
 unfolding spans_from column
-returns c = spans-alike (fill-all _ _ c.loop-i.invariant.1.0 (omega arith) refl) (fill-all _ _ c.loop-i.invariant.1.1.0 (omega arith) (omega arith)) (fill-all _ _ c.loop-i.invariant.1.1.1 (omega arith) (omega arith))
+returns c =
+    let h = c.loop-i.invariant in
+    spans-alike
+    (tabled _ nan c.loop-i.starts h.0 (omega arith) (omega arith))
+    (tabled _ nan c.loop-i.ends h.1.0 (omega arith) (omega arith))
+    (tabled _ 0 c.loop-i.counts h.1.1 (omega arith) (omega arith))

@@ -3,7 +3,7 @@ use Rattle.job_text.proofs.Writing.{phrase-none, phrase-number}
 use Rattle.job_text.proofs.put_phrase.Goals as goal
 
 pub returns-then-spans-eq0 : goal.returns-then-spans-eq0
-returns-then-spans-eq0 c = phrase-none _ _ c.if-spans-eq0.true c.put.ensures
+returns-then-spans-eq0 c = phrase-none _ _ c.if-spans-eq0.true c.put_text.ensures
 
 pub returns : goal.returns
-returns c = phrase-number _ _ c.if-spans-eq0.false c.put_decimal.ensures
+returns c = rw (← c.from.ensures) (phrase-number _ _ c.if-spans-eq0.false c.put_decimal.ensures)

@@ -1,12 +1,7 @@
 use Rattle.job_text.specs.Parts.{Wrote}
 use Rattle.job_text.specs.Text.{piece_lines}
-use lib.ListN.{length}
-use mathlib.Core.Path.{◌≡◌}
-use Prim.Native.Nat.{◌+◌, ◌-◌, ◌*◌, ◌≤◌}
+use Prim.Native.Nat.{◌+◌, ◌*◌, ◌≤◌}
 use Rattle.job_text.proofs.put_pieces.Given as goal
 
 abbrev pub invariant-loop-i : goal.invariant-loop-i
-invariant-loop-i l = (l.i ≤ l.n) × ((length l.out ≡ length l.initial.out) × (Wrote (piece_lines l.starts l.ends l.i) l.at l.initial.out l.out l.next × (l.next ≤ l.at + 64 * l.i)))
-
-abbrev pub decreases-loop-i : goal.decreases-loop-i
-decreases-loop-i l = l.n - l.i
+invariant-loop-i l = Wrote (piece_lines l.starts l.ends l.i) l.at l.initial.out l.out l.next × (l.next ≤ l.at + 64 * l.i)

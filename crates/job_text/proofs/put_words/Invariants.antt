@@ -1,12 +1,7 @@
 use Rattle.job_text.specs.Parts.{Wrote}
 use Rattle.job_text.specs.Text.{word_lines}
-use lib.ListN.{length}
-use mathlib.Core.Path.{◌≡◌}
-use Prim.Native.Nat.{◌+◌, ◌-◌, ◌*◌, ◌≤◌}
+use Prim.Native.Nat.{◌+◌, ◌*◌, ◌≤◌}
 use Rattle.job_text.proofs.put_words.Given as goal
 
 abbrev pub invariant-loop-i : goal.invariant-loop-i
-invariant-loop-i l = (l.i ≤ l.n) × ((length l.out ≡ length l.initial.out) × (Wrote (word_lines l.spans l.starts l.ends l.phrases l.i) l.at l.initial.out l.out l.next × (l.next ≤ l.at + 64 * l.i)))
-
-abbrev pub decreases-loop-i : goal.decreases-loop-i
-decreases-loop-i l = l.n - l.i
+invariant-loop-i l = Wrote (word_lines l.spans l.starts l.ends l.phrases l.i) l.at l.initial.out l.out l.next × (l.next ≤ l.at + 64 * l.i)

@@ -3,12 +3,6 @@ use mathlib.Core.Path.{ap, ◌∙◌}
 use Rattle.last_run.specs.LastRun.{frames_of, frame_run}
 use Rattle.last_run.proofs.frame_run.Goals as goal
 
-pub search_back-requires : goal.search_back-requires
-search_back-requires c = c.requires
-
-pub frames_of-requires : goal.frames_of-requires
-frames_of-requires c = c.search_back.ensures.1
-
 pub returns : goal.returns
 unfolding frame_run
 returns c = (c.frames_of.ensures.0 ∙ ap frames_of c.search_back.ensures.0, c.frames_of.ensures.1)

@@ -3,9 +3,6 @@ use native.Mathlib.Omega.{arith}
 use Rattle.last_run.proofs.Between.{between_is}
 use Rattle.last_run.proofs.run_between.Goals as goal
 
-pub seconds_of-requires : goal.seconds_of-requires
-seconds_of-requires c = c.frame_run.ensures.1
-
 pub returns : goal.returns
 returns c =
     between_is _ _ c.requires _ _ c.frame_index-lo.ensures

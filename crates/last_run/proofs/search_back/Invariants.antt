@@ -1,4 +1,3 @@
-use Prim.Native.Nat.{◌≤◌}
 use mathlib.Core.Path.{◌≡◌}
 use mathlib.Core.Bool.{false}
 use lib.IntN.{pos}
@@ -10,7 +9,4 @@ use Rattle.last_run.proofs.search_back.Given as goal
 
 abbrev pub invariant-loop-k : goal.invariant-loop-k
 invariant-loop-k l =
-    (l.k ≤ l.hi) × ((l.s.over ≡ false) × (Low l.s × (ends_between (loud_row l.floor l.levels) (pos l.lo) (pos l.hi) ≡ rest (loud_row l.floor l.levels) l.lo l.k l.s)))
-
-abbrev pub decreases-loop-k : goal.decreases-loop-k
-decreases-loop-k l = l.k
+    (l.s.over ≡ false) × (Low l.s × (ends_between (loud_row l.floor l.levels) (pos l.lo) (pos l.hi) ≡ rest (loud_row l.floor l.levels) l.lo l.k l.s))

@@ -1,27 +1,8 @@
 -- `loops::collapse` meets its contract: the passes, and the places behind what they leave. Assumes nothing.
-use mathlib.Core.Path.{refl, sym, ◌∙◌}
+use mathlib.Core.Path.{◌∙◌}
 use native.Mathlib.Omega.{arith}
 use Rattle.loops.proofs.Rules.{collapsing}
 use Rattle.loops.proofs.collapse.Goals as goal
-
-pub passes-len-requires : goal.passes-len-requires
-passes-len-requires c = c.requires
-
-pub clear-requires : goal.clear-requires
-clear-requires c =
-    let pre = c.requires in (
-      (
-        c.passes-len.auto.starts ∙ pre.0 ∙ sym c.passes-len.auto.keys,
-        (
-          c.passes-len.auto.ends ∙ pre.1.0 ∙ sym c.passes-len.auto.keys,
-          (
-            c.passes-len.auto.letters ∙ pre.1.1.0 ∙ sym c.passes-len.auto.keys,
-            (c.passes-len.auto.units ∙ pre.1.1.1.0 ∙ sym c.passes-len.auto.keys, refl),
-          ),
-        ),
-      ),
-      omega arith,
-    )
 
 pub returns : goal.returns
 returns c =

@@ -1,16 +1,15 @@
 -- The public call meets its contract, by what its checks found. Assumes nothing.
-use mathlib.Core.Path.{sym, ap, ◌∙◌}
+use mathlib.Core.Path.{refl, sym, ap, ◌∙◌}
+use Rattle.base.proofs.First.{refused}
 use Rattle.limits.specs.Order.{chain}
 use Rattle.loops.proofs.Rules.{fine-even, refused-made, call-made}
 use Rattle.loops.proofs.collapse_loops.Goals as goal
 
-pub accept-requires : goal.accept-requires
-accept-requires c =
-    fine-even _ (sym (c.chain-rule.ensures ∙ ap chain c.of_words.ensures) ∙ c.in-Fine.is)
+pub collapse-requires : goal.collapse-requires
+collapse-requires c = fine-even _ (sym (c.in_ok-chain.ensures ∙ ap chain c.of_words.ensures))
 
-pub returns-in-Breaks : goal.returns-in-Breaks
-returns-in-Breaks c = refused-made _ _ (c.chain-rule.ensures ∙ ap chain c.of_words.ensures) c.in-Breaks.is
+pub returns-in_err-chain : goal.returns-in_err-chain
+returns-in_err-chain c = rw (refused _ c.from_residual.ensures.1) (refused-made _ _ (c.in_err-chain.ensures ∙ ap chain c.of_words.ensures) refl)
 
-pub returns-in-Fine : goal.returns-in-Fine
-returns-in-Fine c =
-    call-made _ (c.chain-rule.ensures ∙ ap chain c.of_words.ensures) c.in-Fine.is c.accept.ensures
+pub returns : goal.returns
+returns c = call-made _ (c.in_ok-chain.ensures ∙ ap chain c.of_words.ensures) refl c.collapse.ensures

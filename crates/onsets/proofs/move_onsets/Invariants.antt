@@ -11,6 +11,3 @@ abbrev pub invariant-loop-i : goal.invariant-loop-i
 invariant-loop-i l =
     (length l.starts ≡ length l.initial.starts)
     × (snap_onsets (loud_row l.floor l.levels) (edges l.initial.starts l.ends) ≡ each (onset_turn (loud_row l.floor l.levels)) (length l.initial.starts - l.i) l.i (edges l.starts l.ends))
-
-abbrev pub decreases-loop-i : goal.decreases-loop-i
-decreases-loop-i l = length l.initial.starts - l.i

@@ -7,6 +7,3 @@ use Rattle.peak.proofs.loudest.Given as goal
 abbrev pub invariant-loop-i : goal.invariant-loop-i
 invariant-loop-i l =
     range (peak_turn l.samples) (pos l.from) (pos l.to) (of_bits binary64 0) ≡ run (peak_turn l.samples) (l.to - l.i) (pos l.i) (on l.peak)
-
-abbrev pub decreases-loop-i : goal.decreases-loop-i
-decreases-loop-i l = l.to - l.i

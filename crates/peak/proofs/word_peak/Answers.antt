@@ -2,7 +2,7 @@
 use Rattle.std.proofs.Common.{min, ap, ◌∙◌}
 use lib.Ieee.{of_bits, div}
 use Rattle.base.specs.Whole.{to_nat}
-use Rattle.frames.proofs.Signed.{read_back, test_back, index-fits, index_is}
+use Rattle.frames.proofs.Signed.{read_back, test_back, index_is}
 use Rattle.peak.proofs.Ends.{less-back}
 use Rattle.peak.proofs.Ranges.{peak-before, peak-none, peak-from}
 use Rattle.peak.proofs.word_peak.Goals as goal
@@ -19,9 +19,6 @@ returns-then-from-lt0 c =
     let a = c.floor_i64-from in
     let b = c.ceil_i64-to in
     peak-none _ _ _ a.ensures b.ensures (test_back a.result a.type_inv c.if-from-lt0.true) (less-back a.result b.result a.type_inv b.type_inv c.if-from-to.false)
-
-pub overflow_cast-from : goal.overflow_cast-from
-overflow_cast-from c = let a = c.floor_i64-from in index-fits a.result a.type_inv c.if-from-lt0.false
 
 pub returns : goal.returns
 returns c =

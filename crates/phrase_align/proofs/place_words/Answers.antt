@@ -1,14 +1,7 @@
 -- `phrase_align::place_words` meets its contract: what is placed in place is what the definition places. Assumes nothing.
-use mathlib.Core.Path.{refl, ◌∙◌}
 use native.Mathlib.Nat.{le_trans, le_of_eq}
 use Rattle.phrase_align.proofs.Made.{placed-made}
 use Rattle.phrase_align.proofs.place_words.Goals as goal
-
-pub clear-requires : goal.clear-requires
-clear-requires c =
-    let k = c.place_spans-at.auto in
-    let p = c.requires.0 in
-    ((k.starts ∙ p.0, (k.ends ∙ p.1.0, (p.1.1.0, (p.1.1.1.0, refl)))), le_trans c.place_spans-at.ensures.1 (le_of_eq p.1.1.0))
 
 pub returns : goal.returns
 returns c =

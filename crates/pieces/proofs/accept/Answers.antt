@@ -2,9 +2,6 @@
 use Rattle.pieces.proofs.Rules.{accept-made}
 use Rattle.pieces.proofs.accept.Goals as goal
 
-pub write_pieces-requires : goal.write_pieces-requires
-write_pieces-requires c = c.requires
-
 pub returns : goal.returns
 returns c =
     accept-made _ _ _ _ _ c.count_pieces-n.ensures c.write_pieces.ensures.0 c.write_pieces.ensures.1

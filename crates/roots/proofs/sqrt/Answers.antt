@@ -4,7 +4,6 @@ use mathlib.Core.Path.{◌≡◌, sym, ◌∙◌, subst}
 use lib.Dec.{T}
 use lib.Ieee.{Float, binary64, fits, of_bits, to_bits}
 use lib.Ieee.Bits.{of_bits-to_bits, to_bits-lt}
-use Rattle.base.proofs.Signs.{no_nan}
 use Rattle.roots.specs.Sqrt.{sqrt}
 use Rattle.roots.proofs.Cases.{at-nan, made-nan, plus-zero, minus-zero, below-zero, infinite, finite-bits}
 use Rattle.roots.proofs.sqrt.Goals as goal
@@ -22,11 +21,8 @@ itself x h e = subst (λ (v : Float). v ≡ sqrt binary64 v) (back x h) e
 other : (x : Float) → fits binary64 x ≡ true → (r : Float) → r ≡ sqrt binary64 (of_bits binary64 (to_bits binary64 x)) → r ≡ sqrt binary64 x
 other x h r e = subst (λ (v : Float). r ≡ sqrt binary64 v) (back x h) e
 
-pub returns-then-x : goal.returns-then-x
-returns-then-x c = at-nan binary64 c.args.x c.if-x.true
-
-pub float_to_bits-b : goal.float_to_bits-b
-float_to_bits-b c = no_nan c.args.x c.if-x.false
+pub returns-then-is_nan : goal.returns-then-is_nan
+returns-then-is_nan c = at-nan binary64 c.args.x (sym c.is_nan.ensures.value ∙ c.if-is_nan.true)
 
 pub returns-then-b-eq0 : goal.returns-then-b-eq0
 returns-then-b-eq0 c = itself c.args.x c.well_formed.0.1 (plus-zero _ c.if-b-eq0.true)

@@ -8,8 +8,4 @@ use Rattle.share.specs.Share.{share_turn}
 use Rattle.share.proofs.share.Given as goal
 
 abbrev pub invariant-loop-i : goal.invariant-loop-i
-invariant-loop-i l = (length l.starts ≡ length l.initial.starts) × ((length l.ends ≡ length l.initial.ends)
-    × (shares.share l.letters l.room l.total l.from (edges l.initial.starts l.initial.ends) ≡ (each (share_turn l.letters l.room l.total) (length l.letters - l.i) l.i (record { edges = edges l.starts l.ends; t = l.t })).edges))
-
-abbrev pub decreases-loop-i : goal.decreases-loop-i
-decreases-loop-i l = length l.letters - l.i
+invariant-loop-i l = shares.share l.letters l.room l.total l.from (edges l.initial.starts l.initial.ends) ≡ (each (share_turn l.letters l.room l.total) (length l.letters - l.i) l.i (record { edges = edges l.starts l.ends; t = l.t })).edges

@@ -8,11 +8,11 @@ use Rattle.spread.proofs.place_between.Goals as goal
 
 pub loop-i-init : goal.loop-i-init
 unfolding place_between
-loop-i-init c = (omega arith, (refl, (refl, refl)))
+loop-i-init c = (refl, (refl, refl))
 
 pub loop-i-preserved : goal.loop-i-preserved
 loop-i-preserved c =
-    (omega arith, (search rules, (search rules, c.loop-i.invariant.1.1.1 ∙ each_next _ _ _ (omega arith) c.place_stray.ensures)))
+    (search rules, (search rules, c.loop-i.invariant.1.1 ∙ each_next _ _ _ (omega arith) c.place_stray.ensures))
 
 pub returns : goal.returns
-returns c = sym (c.loop-i.invariant.1.1.1 ∙ each-done _ _ _ _ (omega arith))
+returns c = sym (c.loop-i.invariant.1.1 ∙ each-done _ _ _ _ (omega arith))

@@ -1,4 +1,4 @@
-use Prim.Native.Nat.{◌-◌, ◌<◌}
+use Prim.Native.Nat.{◌-◌}
 use mathlib.Core.Path.{◌≡◌}
 use lib.ListN.{length}
 use Rattle.base.specs.Loop.{each}
@@ -7,8 +7,5 @@ use Rattle.spread.specs.Spread.{between_turn, place_between}
 use Rattle.spread.proofs.place_between.Given as goal
 
 abbrev pub invariant-loop-i : goal.invariant-loop-i
-invariant-loop-i l = (l.first < l.i) × ((length l.starts ≡ length l.initial.starts) × ((length l.ends ≡ length l.initial.ends)
-    × (place_between l.from l.to l.first l.last (edges l.initial.starts l.initial.ends) ≡ each (between_turn l.from l.to) (l.last - l.i) l.i (edges l.starts l.ends))))
-
-abbrev pub decreases-loop-i : goal.decreases-loop-i
-decreases-loop-i l = l.last - l.i
+invariant-loop-i l = (length l.starts ≡ length l.initial.starts) × ((length l.ends ≡ length l.initial.ends)
+    × (place_between l.from l.to l.first l.last (edges l.initial.starts l.initial.ends) ≡ each (between_turn l.from l.to) (l.last - l.i) l.i (edges l.starts l.ends)))

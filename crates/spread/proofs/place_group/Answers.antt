@@ -1,13 +1,13 @@
 -- `spread::place_group` meets its contract. Assumes nothing.
-use mathlib.Core.Path.{◌∙◌}
-use native.Mathlib.Omega.{arith}
-use Rattle.spread.proofs.Around.{group-around, group-spread}
+use Rattle.std.proofs.Common.{rules}
+use Rattle.spread.specs.Spread.{place_group}
+use Rattle.spread.specs.Parts.{place_around}
 use Rattle.spread.proofs.place_group.Goals as goal
 
 pub returns-then-first-letters : goal.returns-then-first-letters
-returns-then-first-letters c =
-    c.place_around.ensures ∙ group-around _ _ _ _ c.first_inside-first.ensures.0 (omega arith)
+unfolding place_group place_around
+returns-then-first-letters c = search rules
 
-pub returns : goal.returns
-returns c =
-    c.spread.ensures ∙ group-spread _ _ _ _ c.first_inside-first.ensures.0 (omega arith) c.first_inside-first.ensures.1
+pub returns-else-first-letters : goal.returns-else-first-letters
+unfolding place_group
+returns-else-first-letters c = search rules

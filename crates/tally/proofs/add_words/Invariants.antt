@@ -1,4 +1,3 @@
-use Prim.Native.Nat.{◌-◌, ◌≤◌}
 use mathlib.Core.Path.{◌≡◌}
 use lib.ListN.{length}
 use Rattle.base.specs.Words.{edges}
@@ -8,7 +7,4 @@ use Rattle.tally.proofs.add_words.Given as goal
 
 abbrev pub invariant-loop-i : goal.invariant-loop-i
 invariant-loop-i l =
-    (l.i ≤ length l.starts) × ((length l.places ≡ length l.initial.places) × (l.places ≡ filled (loud_row l.floor l.levels) l.phrases (edges l.starts l.ends) l.n l.i l.initial.places))
-
-abbrev pub decreases-loop-i : goal.decreases-loop-i
-decreases-loop-i l = length l.starts - l.i
+    (length l.places ≡ length l.initial.places) × (l.places ≡ filled (loud_row l.floor l.levels) l.phrases (edges l.starts l.ends) l.n l.i l.initial.places)

@@ -3,13 +3,19 @@ use mathlib.Core.Path.{refl, sym, ◌∙◌}
 use native.Mathlib.Omega.{arith}
 use Rattle.base.proofs.Loops.{each_next, each-done}
 use Rattle.tally.specs.Parts.{loud_between}
+use Rattle.tally.proofs.Frames.{turn-loud, turn-quiet}
 use Rattle.tally.proofs.loud_count.Goals as goal
+use Rattle.tally.proofs.loud_count.Goals.{then-loud_at, else-loud_at}
 
 pub loop-k-init : goal.loop-k-init
 loop-k-init c = (omega arith, (omega arith, unfold loud_between in refl))
 
 pub loop-k-preserved : goal.loop-k-preserved
-loop-k-preserved c = (omega arith, (omega arith, c.loop-k.invariant.1.1 ∙ each_next _ _ _ c.loop-k-test.true c.counted-n.ensures.0))
+loop-k-preserved c =
+    elim c.if-loud_at.branch [
+      | then-loud_at w ↦ (omega arith, (omega arith, c.loop-k.invariant.1.1 ∙ each_next _ _ _ c.loop-k-test.true (turn-loud _ _ _ c.loud_at.ensures w.if-loud_at.true w.n-is)))
+      | else-loud_at w ↦ (omega arith, (omega arith, c.loop-k.invariant.1.1 ∙ each_next _ _ _ c.loop-k-test.true (turn-quiet _ _ _ c.loud_at.ensures w.if-loud_at.false w.n-is)))
+    ]
 
 pub returns : goal.returns
 returns c = (sym (c.loop-k.invariant.1.1 ∙ each-done _ _ _ _ c.loop-k-test.false), c.loop-k.invariant.1.0)

@@ -1,4 +1,4 @@
-use Prim.Native.Nat.{◌+◌, ◌-◌, ◌≤◌}
+use Prim.Native.Nat.{◌-◌, ◌≤◌}
 use mathlib.Core.Path.{◌≡◌}
 use Rattle.base.specs.Loop.{each}
 use Rattle.envelope.specs.Envelope.{loud_row}
@@ -8,6 +8,3 @@ use Rattle.tally.proofs.loud_count.Given as goal
 abbrev pub invariant-loop-k : goal.invariant-loop-k
 invariant-loop-k l =
     (l.n ≤ l.k) × ((l.n ≤ l.to) × (loud_between (loud_row l.floor l.levels) l.from l.to ≡ each (loud_turn (loud_row l.floor l.levels)) (l.to - l.k) l.k l.n))
-
-abbrev pub decreases-loop-k : goal.decreases-loop-k
-decreases-loop-k l = l.to + 1 - l.k

@@ -11,5 +11,5 @@ use Rattle.ends.proofs.one_word.end_of.Goals as goal
 pub returns : goal.returns
 returns c =
     end_of_is _ _ (omega arith) _ _ _ c.frame_index-lo.ensures
-    (c.least-hi.ensures ∙ ap (min _) (c.frame_index.ensures ∙ ap (λ (x : Float). min (to_nat (frame_at x)) (2 ^ 40)) c.reach.ensures))
+    (c.min-hi.ensures ∙ ap (min _) (c.frame_index.ensures ∙ ap (λ (x : Float). min (to_nat (frame_at x)) (2 ^ 40)) c.reach.ensures))
     c.last_loud-past.ensures.0 c.sound_end.ensures c.or_duration.ensures c.trim.ensures

@@ -6,8 +6,5 @@ use Rattle.ends.proofs.sound.last_loud.Goals as goal
 pub returns-then-hi-first : goal.returns-then-hi-first
 returns-then-hi-first c = (first-none _ _ _ _ _ c.first_frame-first.ensures c.if-hi-first.true, omega arith)
 
-pub sound_past-requires : goal.sound_past-requires
-sound_past-requires c = (omega arith, (omega arith, (omega arith, (omega arith, omega arith))))
-
 pub returns : goal.returns
 returns c = (first-met _ _ _ _ _ c.first_frame-first.ensures c.if-hi-first.false (omega arith) c.sound_past.ensures.0, c.sound_past.ensures.1)

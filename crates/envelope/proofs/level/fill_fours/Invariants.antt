@@ -1,10 +1,8 @@
-use Rattle.std.proofs.Common.{◌≡◌, ◌-◌, ◌≤◌, length}
+use Rattle.std.proofs.Common.{◌≡◌, ◌-◌, ◌*◌}
 use Rattle.base.specs.Loop.{each}
+use Rattle.envelope.specs.Envelope.{frames}
 use Rattle.envelope.specs.Parts.{stored}
 use Rattle.envelope.proofs.level.fill_fours.Given as goal
 
-abbrev pub invariant-loop-k : goal.invariant-loop-k
-invariant-loop-k l = (l.k ≤ l.n) × ((length l.levels ≡ length l.initial.levels) × (each (stored l.samples) l.n 0 l.initial.levels ≡ each (stored l.samples) (l.n - l.k) l.k l.levels))
-
-abbrev pub decreases-loop-k : goal.decreases-loop-k
-decreases-loop-k l = l.n - l.k
+abbrev pub invariant-loop-i : goal.invariant-loop-i
+invariant-loop-i l = each (stored l.samples) (frames l.samples) 0 l.initial.levels ≡ each (stored l.samples) (frames l.samples - l.i * 4) (l.i * 4) l.levels

@@ -1,10 +1,8 @@
-use Rattle.std.proofs.Common.{◌≡◌, ◌-◌, length}
+use Rattle.std.proofs.Common.{◌≡◌, ◌-◌}
 use Rattle.base.specs.Loop.{each}
+use Rattle.envelope.specs.Envelope.{frames}
 use Rattle.envelope.specs.Parts.{stored}
 use Rattle.envelope.proofs.level.fill_rest.Given as goal
 
 abbrev pub invariant-loop-k : goal.invariant-loop-k
-invariant-loop-k l = (length l.levels ≡ length l.initial.levels) × (each (stored l.samples) (l.n - l.from) l.from l.initial.levels ≡ each (stored l.samples) (l.n - l.k) l.k l.levels)
-
-abbrev pub decreases-loop-k : goal.decreases-loop-k
-decreases-loop-k l = l.n - l.k
+invariant-loop-k l = each (stored l.samples) (frames l.samples - l.from) l.from l.initial.levels ≡ each (stored l.samples) (frames l.samples - l.k) l.k l.levels

@@ -1,16 +1,16 @@
 -- `envelope::level::squares` meets its contract: what is left of the sum, from where the loop stands, gives the whole. Assumes nothing.
-use Rattle.std.proofs.Common.{sym, refl, ◌∙◌, rules}
+use Rattle.std.proofs.Common.{sym, refl, ◌∙◌}
 use lib.Ieee.{nan}
 use Rattle.base.proofs.Loops.{fold_next, fold_done}
 use Rattle.envelope.specs.Envelope.{squares}
 use Rattle.envelope.proofs.level.squares.Goals as goal
 
-pub loop-i-init : goal.loop-i-init
+pub loop-s-init : goal.loop-s-init
 unfolding squares
-loop-i-init c = (search rules, refl)
+loop-s-init c = refl
 
-pub loop-i-preserved : goal.loop-i-preserved
-loop-i-preserved c = (search rules, c.loop-i.invariant.1 ∙ fold_next _ _ _ nan c.loop-i-test.true (cc))
+pub loop-s-preserved : goal.loop-s-preserved
+loop-s-preserved c = c.loop-s.invariant ∙ fold_next _ _ _ nan c.loop-s-test.true (cc)
 
 pub returns : goal.returns
-returns c = sym (c.loop-i.invariant.1 ∙ fold_done _ _ _ _ c.loop-i-test.false)
+returns c = sym (c.loop-s.invariant ∙ fold_done _ _ _ _ c.loop-s-test.false)

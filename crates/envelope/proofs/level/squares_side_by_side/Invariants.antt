@@ -1,9 +1,5 @@
-use Rattle.std.proofs.Common.{◌-◌, ◌≤◌}
 use Rattle.envelope.proofs.Fours.{Left}
 use Rattle.envelope.proofs.level.squares_side_by_side.Given as goal
 
 abbrev pub invariant-loop-i : goal.invariant-loop-i
-invariant-loop-i l = (l.i ≤ 160) × (Left l.part 0 l.i l.first × (Left l.part 1 l.i l.second × (Left l.part 2 l.i l.third × Left l.part 3 l.i l.fourth)))
-
-abbrev pub decreases-loop-i : goal.decreases-loop-i
-decreases-loop-i l = 160 - l.i
+invariant-loop-i l = Left l.part 0 l.i l.first × (Left l.part 1 l.i l.second × (Left l.part 2 l.i l.third × Left l.part 3 l.i l.fourth))

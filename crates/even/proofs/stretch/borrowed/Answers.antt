@@ -1,21 +1,16 @@
--- `even::stretch::borrowed` meets its contract: what is left of the search finds what the whole finds. Assumes nothing.
-use mathlib.Core.Path.{refl, sym, ◌∙◌}
-use native.Mathlib.Omega.{arith}
-use Rattle.base.proofs.Loops.{down-next, down-stop, down-done}
+-- `even::stretch::borrowed` meets its contract: the code's search stops where the definition's does. Assumes nothing.
+use Rattle.std.proofs.Common.{rules, tests, arith, ◌≡◌, ◌∙◌, List, [], Float}
+use Rattle.base.specs.Loop.{down}
+use Rattle.base.specs.Words.{edges}
+use Rattle.base.proofs.Loops.{down_le}
+use Rattle.base.proofs.Searches.{found_down}
 use Rattle.even.specs.Even.{borrows, borrowed}
 use Rattle.even.proofs.stretch.borrowed.Goals as goal
 
-pub loop-f-init : goal.loop-f-init
-unfolding borrowed
-loop-f-init c = (omega arith, λ ends. refl)
-
-pub loop-f-preserved : goal.loop-f-preserved
-unfolding borrows
-loop-f-preserved c = (omega arith, λ ends. c.loop-f.invariant.1 ends ∙ down-next _ _ (omega arith) (sym c.cramped.ensures ∙ c.if-cramped.true))
-
-pub returns-else-cramped : goal.returns-else-cramped
-unfolding borrows
-returns-else-cramped c = ((λ ends. sym (c.loop-f.invariant.1 ends ∙ down-stop _ _ (sym c.cramped.ensures ∙ c.if-cramped.false))), omega arith)
-
 pub returns : goal.returns
-returns c = ((λ ends. sym (c.loop-f.invariant.1 ends ∙ down-done _ _ (omega arith))), omega arith)
+unfolding borrowed borrows
+returns c =
+    let p = λ (ends : List Float). borrows c.args.letters.now (edges c.args.starts.now ends) c.args.ceiling c.args.b in
+    let found : (ends : List Float) → c.unwrap_or.result ≡ down (p ends) c.args.a =
+    λ ends. c.unwrap_or.ensures ∙ found_down _ (p ends) (λ x b q k. search (rules, tests)) _ _ _ c.args.a (cc) (cc) (cc) c.find.ensures.ran in
+    (found, omega (arith, found [], down_le (p []) c.args.a))

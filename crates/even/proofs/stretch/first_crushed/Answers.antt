@@ -1,19 +1,16 @@
--- `even::stretch::first_crushed` meets its contract: what is left of the search finds what the whole finds. Assumes nothing.
-use mathlib.Core.Path.{refl, sym, ◌∙◌}
-use native.Mathlib.Omega.{arith}
-use Rattle.base.proofs.Loops.{down-next, down-stop, down-done}
-use Rattle.even.specs.Even.{first_crushed}
+-- `even::stretch::first_crushed` meets its contract: the code's search stops where the definition's does. Assumes nothing.
+use Rattle.std.proofs.Common.{rules, tests, arith, ◌≡◌, ◌-◌, ◌∙◌, ℕ}
+use Rattle.base.specs.Loop.{down}
+use Rattle.base.specs.Words.{edges}
+use Rattle.base.proofs.Loops.{down_le}
+use Rattle.base.proofs.Searches.{found_down}
+use Rattle.even.specs.Even.{crushed, first_crushed}
 use Rattle.even.proofs.stretch.first_crushed.Goals as goal
 
-pub loop-a-init : goal.loop-a-init
-unfolding first_crushed
-loop-a-init c = (omega arith, refl)
-
-pub loop-a-preserved : goal.loop-a-preserved
-loop-a-preserved c = (omega arith, c.loop-a.invariant.1 ∙ down-next _ _ (omega arith) (sym c.is_crushed.ensures ∙ c.if-is_crushed.true))
-
-pub returns-else-is_crushed : goal.returns-else-is_crushed
-returns-else-is_crushed c = (sym (c.loop-a.invariant.1 ∙ down-stop _ _ (sym c.is_crushed.ensures ∙ c.if-is_crushed.false)), omega arith)
-
 pub returns : goal.returns
-returns c = (sym (c.loop-a.invariant.1 ∙ down-done _ _ (omega arith)), omega arith)
+unfolding first_crushed
+returns c =
+    let p = λ (a : ℕ). crushed (edges c.args.starts.now c.args.ends.now) (a - 1) in
+    let found : c.unwrap_or.result ≡ down p c.args.i =
+    c.unwrap_or.ensures ∙ found_down _ p (λ x b q k. search (rules, tests)) _ _ _ c.args.i (cc) (cc) (cc) c.find.ensures.ran in
+    (found, omega (arith, found, down_le p c.args.i))

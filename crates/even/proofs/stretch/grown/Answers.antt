@@ -1,21 +1,18 @@
--- `even::stretch::grown` meets its contract: what is left of the search finds what the whole finds. Assumes nothing.
-use mathlib.Core.Path.{refl, sym, ◌∙◌}
-use native.Mathlib.Omega.{arith}
-use Rattle.base.proofs.Loops.{up_next, up-stop, up_done}
+-- `even::stretch::grown` meets its contract: the code's search stops where the definition's does. Assumes nothing.
+use Rattle.std.proofs.Common.{rules, tests, arith, ◌≡◌, ◌-◌, ◌∙◌, List, [], length, get_or, Float}
+use Rattle.std.specs.Float.{nan}
+use Rattle.base.specs.Loop.{up}
+use Rattle.base.specs.Words.{edges}
+use Rattle.base.proofs.Loops.{up-ge, up_le}
+use Rattle.base.proofs.Searches.{found_up}
 use Rattle.even.specs.Even.{grows, grown}
 use Rattle.even.proofs.stretch.grown.Goals as goal
 
-pub loop-e-init : goal.loop-e-init
-unfolding grown
-loop-e-init c = ((omega arith, omega arith), λ ends. refl)
-
-pub loop-e-preserved : goal.loop-e-preserved
-unfolding grows
-loop-e-preserved c = ((omega arith, omega arith), λ ends. c.loop-e.invariant.1 ends ∙ up_next _ _ _ (omega arith) (sym c.cramped.ensures ∙ c.if-cramped.true))
-
-pub returns-else-cramped : goal.returns-else-cramped
-unfolding grows
-returns-else-cramped c = ((λ ends. sym (c.loop-e.invariant.1 ends ∙ up-stop _ _ _ (sym c.cramped.ensures ∙ c.if-cramped.false))), (omega arith, omega arith))
-
 pub returns : goal.returns
-returns c = ((λ ends. sym (c.loop-e.invariant.1 ends ∙ up_done _ _ _ (omega arith))), (omega arith, omega arith))
+unfolding grown grows
+returns c =
+    let p = λ (ends : List Float). grows c.args.letters.now (edges c.args.starts.now ends) (get_or c.args.starts.now c.args.a nan) c.args.a in
+    let n = length c.args.starts.now - 1 - c.args.b in
+    let found : (ends : List Float) → c.unwrap_or.result ≡ up (p ends) n c.args.b =
+    λ ends. c.unwrap_or.ensures ∙ found_up _ (p ends) (λ x b q k. search (rules, tests)) _ _ _ (omega arith) c.find.ensures.ran in
+    (found, (omega (arith, found [], up-ge (p []) n c.args.b), omega (arith, found [], up_le (p []) n c.args.b)))

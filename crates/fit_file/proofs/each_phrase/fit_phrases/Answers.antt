@@ -8,10 +8,6 @@ use Rattle.fit_file.proofs.each_phrase.fit_phrases.Goals as goal
 pub loop-p-init : goal.loop-p-init
 loop-p-init c = unfold fit_file in (refl, (refl, (refl, (refl, (refl, each_start _ _ _)))))
 
-pub overflow_add-p : goal.overflow_add-p
-overflow_add-p c =
-    omega (arith, c.loop-p-test.true, c.requires.1.1.1.1.1.1.1.1.1)
-
 pub loop-p-preserved : goal.loop-p-preserved
 loop-p-preserved c = (
   omega arith,

@@ -1,8 +1,8 @@
 -- `fit_file::one_phrase::fit_group` meets its contract. Assumes nothing.
-use Rattle.fit_file.proofs.Turns.{group-is}
+use Rattle.std.proofs.Common.{rules}
+use Rattle.fit_file.specs.FitFile.{fit_group}
 use Rattle.fit_file.proofs.one_phrase.fit_group.Goals as goal
 
 pub returns : goal.returns
-returns c =
-    group-is _ _ _ _ _ _ c.js_min.ensures c.fit_words.ensures c.keep_inside.ensures
-    c.take_trailing.ensures c.even_words.ensures
+unfolding fit_group
+returns c = search rules

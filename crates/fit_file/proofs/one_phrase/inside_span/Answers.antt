@@ -1,6 +1,8 @@
 -- `fit_file::one_phrase::inside_span` meets its contract. Assumes nothing.
-use Rattle.fit_file.proofs.Turns.{inside_is}
+use Rattle.std.proofs.Common.{rules}
+use Rattle.fit_file.specs.FitFile.{inside_span}
 use Rattle.fit_file.proofs.one_phrase.inside_span.Goals as goal
 
 pub returns : goal.returns
-returns c = inside_is _ _ _ c.js_max.ensures c.js_min-start.ensures c.js_max-2.ensures c.js_min.ensures
+unfolding inside_span
+returns c = search rules

@@ -10,6 +10,3 @@ abbrev pub invariant-loop-i : goal.invariant-loop-i
 invariant-loop-i l =
     (length l.starts ≡ length l.initial.starts) × ((length l.ends ≡ length l.initial.ends)
     × (keep_inside (times l.from l.to) (edges l.initial.starts l.initial.ends) ≡ each (inside_turn (times l.from l.to)) (length l.initial.starts - l.i) l.i (edges l.starts l.ends)))
-
-abbrev pub decreases-loop-i : goal.decreases-loop-i
-decreases-loop-i l = length l.initial.starts - l.i

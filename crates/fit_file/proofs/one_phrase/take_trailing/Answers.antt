@@ -1,7 +1,8 @@
 -- `fit_file::one_phrase::take_trailing` meets its contract. Assumes nothing.
-use Rattle.fit_file.proofs.Turns.{trailing-is}
+use Rattle.std.proofs.Common.{rules}
+use Rattle.fit_file.specs.FitFile.{take_trailing}
 use Rattle.fit_file.proofs.one_phrase.take_trailing.Goals as goal
 
 pub returns : goal.returns
-returns c =
-    trailing-is _ _ _ _ c.run_between-run.ensures c.take_run.ensures
+unfolding take_trailing
+returns c = search rules

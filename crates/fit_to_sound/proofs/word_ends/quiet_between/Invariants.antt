@@ -10,6 +10,3 @@ use Rattle.fit_to_sound.proofs.word_ends.quiet_between.Given as goal
 abbrev pub invariant-loop-k : goal.invariant-loop-k
 invariant-loop-k l =
     (l.run < 15) × (quiet_between (loud_row l.floor l.levels) (pos l.lo) (pos l.hi) ≡ (run_turns (quiet_turn (loud_row l.floor l.levels)) (l.hi - l.k) (pos l.k) (on (running l.run))).met)
-
-abbrev pub decreases-loop-k : goal.decreases-loop-k
-decreases-loop-k l = l.hi - l.k

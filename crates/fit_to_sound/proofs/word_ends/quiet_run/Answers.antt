@@ -6,4 +6,4 @@ use Rattle.fit_to_sound.proofs.Silence.{quiet_run-is}
 use Rattle.fit_to_sound.proofs.word_ends.quiet_run.Goals as goal
 
 pub returns : goal.returns
-returns c = quiet_run-is _ _ (omega arith) _ _ c.frame_index-lo.ensures (c.least-hi.ensures ∙ ap (min _) c.frame_index.ensures) c.quiet_between.ensures
+returns c = quiet_run-is _ _ (omega arith) _ _ c.frame_index-lo.ensures (c.min-hi.ensures ∙ ap (min _) c.frame_index.ensures) c.quiet_between.ensures

@@ -11,6 +11,3 @@ abbrev pub invariant-loop-i : goal.invariant-loop-i
 invariant-loop-i l =
     (length l.ends ≡ length l.initial.ends)
     × (settle_ends (loud_row l.floor l.levels) l.duration l.letters (edges l.starts l.initial.ends) ≡ each (end_turn (loud_row l.floor l.levels) l.duration l.letters) (length l.starts - l.i) l.i (edges l.starts l.ends))
-
-abbrev pub decreases-loop-i : goal.decreases-loop-i
-decreases-loop-i l = length l.starts - l.i

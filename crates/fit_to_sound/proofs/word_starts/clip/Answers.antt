@@ -9,13 +9,13 @@ use Rattle.fit_to_sound.proofs.word_starts.clip.Goals as goal
 
 pub loop-i-init : goal.loop-i-init
 unfolding clip_all
-loop-i-init c = (refl, (omega arith, each_start _ _ _))
+loop-i-init c = (refl, each_start _ _ _)
 
 pub loop-i-preserved : goal.loop-i-preserved
 loop-i-preserved c = (
   simp length-set (omega arith),
-  (omega arith, c.loop-i.invariant.1.1 ∙ each_next _ _ _ (omega arith) (clip-turn _ c.args.starts.now c.loop-i.ends c.clipped_to-w.ensures)),
+  c.loop-i.invariant.1 ∙ each_next _ _ _ (omega arith) (clip-turn _ c.args.starts.now c.loop-i.ends c.clipped_to-w.ensures),
 )
 
 pub returns : goal.returns
-returns c = sym (c.loop-i.invariant.1.1 ∙ each-done _ _ _ _ (omega arith))
+returns c = sym (c.loop-i.invariant.1 ∙ each-done _ _ _ _ (omega arith))

@@ -1,4 +1,4 @@
-use Prim.Native.Nat.{◌-◌, ◌≤◌}
+use Prim.Native.Nat.{◌-◌}
 use mathlib.Core.Path.{◌≡◌}
 use lib.ListN.{length}
 use Rattle.base.specs.Loop.{each}
@@ -8,7 +8,4 @@ use Rattle.fit_to_sound.proofs.word_starts.clip.Given as goal
 
 abbrev pub invariant-loop-i : goal.invariant-loop-i
 invariant-loop-i l =
-    (length l.ends ≡ length l.initial.ends) × ((l.i ≤ length l.starts) × (clip_all (edges l.starts l.initial.ends) ≡ each clip_turn (length l.starts - 1 - l.i) l.i (edges l.starts l.ends)))
-
-abbrev pub decreases-loop-i : goal.decreases-loop-i
-decreases-loop-i l = length l.starts - l.i
+    (length l.ends ≡ length l.initial.ends) × (clip_all (edges l.starts l.initial.ends) ≡ each clip_turn (length l.starts - 1 - l.i) l.i (edges l.starts l.ends))

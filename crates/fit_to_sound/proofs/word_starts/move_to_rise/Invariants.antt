@@ -11,6 +11,3 @@ abbrev pub invariant-loop-i : goal.invariant-loop-i
 invariant-loop-i l =
     (length l.starts ≡ length l.initial.starts) × ((length l.ends ≡ length l.initial.ends)
     × (move_to_rise (loud_row l.floor l.levels) (edges l.initial.starts l.initial.ends) ≡ each (rise_turn_of (loud_row l.floor l.levels)) (length l.initial.starts - l.i) l.i (edges l.starts l.ends)))
-
-abbrev pub decreases-loop-i : goal.decreases-loop-i
-decreases-loop-i l = length l.initial.starts - l.i

@@ -9,6 +9,3 @@ use Rattle.fit_to_sound.proofs.word_starts.put_in_order.Given as goal
 abbrev pub invariant-loop-i : goal.invariant-loop-i
 invariant-loop-i l =
     (length l.starts ≡ length l.initial.starts) × ((length l.ends ≡ length l.initial.ends) × (put_in_order l.duration (edges l.initial.starts l.initial.ends) ≡ each (order_turn l.duration) (length l.initial.starts - l.i) l.i (edges l.starts l.ends)))
-
-abbrev pub decreases-loop-i : goal.decreases-loop-i
-decreases-loop-i l = length l.initial.starts - l.i

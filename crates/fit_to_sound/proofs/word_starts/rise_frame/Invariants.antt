@@ -1,4 +1,4 @@
-use Prim.Native.Nat.{◌-◌}
+use Prim.Native.Nat.{◌-◌, ◌≤◌, max}
 use mathlib.Core.Path.{◌≡◌}
 use lib.IntN.{pos}
 use Rattle.base.specs.Loop.{on, run}
@@ -8,7 +8,5 @@ use Rattle.fit_to_sound.proofs.word_starts.rise_frame.Given as goal
 
 abbrev pub invariant-loop-k : goal.invariant-loop-k
 invariant-loop-k l =
-    rise_frame (loud_row l.floor l.levels) (pos l.f) (pos l.stop) ≡ run (rise_turn (loud_row l.floor l.levels)) (l.stop - l.k) (pos l.k) (on (pos l.k))
-
-abbrev pub decreases-loop-k : goal.decreases-loop-k
-decreases-loop-k l = l.stop - l.k
+    (l.k ≤ max l.f l.stop)
+    × (rise_frame (loud_row l.floor l.levels) (pos l.f) (pos l.stop) ≡ run (rise_turn (loud_row l.floor l.levels)) (l.stop - l.k) (pos l.k) (on (pos l.k)))

@@ -1,4 +1,6 @@
 -- `full_run::heard::run_heard` meets its contract: by what the tests found. Assumes nothing.
+use Rattle.base.proofs.First.{refused}
+use mathlib.Core.Path.{refl}
 use Rattle.full_run.proofs.Runs.{stages-ready, heard-refused, heard-accepted}
 use Rattle.base.specs.Words.{words, spans}
 use lib.ListN.{length}
@@ -12,22 +14,21 @@ after_levels-out-requires c =
     (words args.starts.now args.ends.now args.letters.now args.units.now args.keys.now)
     (spans args.span_starts.now args.span_ends.now args.counts.now) args.phrases.now
     args.piece_starts.now args.piece_ends.now (length args.work_starts.now) c.requires
-    (sym c.judge-rule.ensures ∙ c.in-Fine.is)
+    (sym c.in_ok-judge.ensures)
 
-pub returns-in-Breaks : goal.returns-in-Breaks
-returns-in-Breaks c =
+pub returns-in_err-judge : goal.returns-in_err-judge
+returns-in_err-judge c =
     let args = c.args in
-    heard-refused args.levels.now args.count
+    rw (refused _ c.from_residual.ensures.1) (heard-refused args.levels.now args.count
     (words args.starts.now args.ends.now args.letters.now args.units.now args.keys.now)
     (spans args.span_starts.now args.span_ends.now args.counts.now) args.phrases.now
     args.piece_starts.now args.piece_ends.now (length args.work_starts.now) _ _ _ _ _
-    c.judge-rule.ensures c.in-Breaks.is
+    c.in_err-judge.ensures refl)
 
-pub returns-in-Fine : goal.returns-in-Fine
-returns-in-Fine c =
+pub returns : goal.returns
+returns c =
     let args = c.args in
     heard-accepted args.levels.now args.count
     (words args.starts.now args.ends.now args.letters.now args.units.now args.keys.now)
     (spans args.span_starts.now args.span_ends.now args.counts.now) args.phrases.now
-    args.piece_starts.now args.piece_ends.now (length args.work_starts.now) c.judge-rule.ensures
-    c.in-Fine.is c.floor_of-floor.ensures c.after_levels-out.ensures
+    args.piece_starts.now args.piece_ends.now (length args.work_starts.now) c.in_ok-judge.ensures refl c.floor_of-floor.ensures c.after_levels-out.ensures

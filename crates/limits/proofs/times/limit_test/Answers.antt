@@ -1,17 +1,18 @@
 -- `limits::times::limit_test` meets its contract. Assumes nothing.
-use mathlib.Core.Path.{◌∙◌}
+use Rattle.std.proofs.Common.{sym, ◌∙◌}
 use lib.Ieee.{of_bits}
 use Rattle.limits.proofs.Finite.{limit-finite, limit-top, limit-low}
 use Rattle.limits.proofs.times.limit_test.Goals as goal
+use Rattle.limits.proofs.times.limit_test.Goals.{else-t-via-then-t+else-not-is_finite, else-t-via-else-t}
 
-pub returns-then-t-2 : goal.returns-then-t-2
+pub returns-then-not-is_finite : goal.returns-then-not-is_finite
 unfolding of_bits
-returns-then-t-2 c = c.time_test.ensures ∙ limit-finite _ c.if-t-2.true
-
-pub returns-then-t : goal.returns-then-t
-unfolding of_bits
-returns-then-t c = limit-top _ c.if-t.true c.if-t-2.false
+returns-then-not-is_finite c = limit-top _ c.if-t.true (sym c.is_finite.ensures.value ∙ c.if-not-is_finite.true)
 
 pub returns : goal.returns
 unfolding of_bits
-returns c = c.time_test-2.ensures ∙ limit-low _ c.if-t.false
+returns c =
+    elim c.else-t.branch [
+      | else-t-via-then-t+else-not-is_finite w ↦ c.time_test.ensures ∙ limit-finite _ (sym w.is_finite.ensures.value ∙ w.if-not-is_finite.false)
+      | else-t-via-else-t w ↦ c.time_test.ensures ∙ limit-low _ w.if-t.false
+    ]

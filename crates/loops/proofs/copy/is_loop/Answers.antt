@@ -1,13 +1,22 @@
 -- `loops::copy::is_loop` meets its contract: the room, then the two comparisons. Assumes nothing.
+use mathlib.Core.Path.{sym, ◌∙◌}
 use native.Mathlib.Omega.{arith}
+use borrow.Author.Tests.{lt-leb}
+use Rattle.std.proofs.lemmas.Bool.{false≢true}
 use Rattle.loops.proofs.Held.{loop-short, loop-one, loop-two}
 use Rattle.loops.proofs.copy.is_loop.Goals as goal
-
-pub returns-then-len-rest : goal.returns-then-len-rest
-returns-then-len-rest c = loop-short _ _ _ _ _ (omega arith) (omega arith) (omega arith) (omega arith)
+use Rattle.loops.proofs.copy.is_loop.Goals.{then-n-len, else-n-len}
 
 pub returns-then-same : goal.returns-then-same
-returns-then-same c = loop-two _ _ _ _ _ (omega arith) (omega arith) (omega arith) (omega arith) c.same.ensures c.if-same.true c.same-then-same.ensures
+returns-then-same c =
+    elim c.if-n-len.branch [
+      | then-n-len w ↦ loop-two _ _ _ _ _ (omega arith) (omega arith) (omega arith) (omega arith) w.same.ensures (cc) c.same-then-same.ensures
+      | else-n-len w ↦ absurd (false≢true (sym (lt-leb _ _ w.if-n-len.false) ∙ sym w.value-is ∙ c.if-same.true))
+    ]
 
-pub returns : goal.returns
-returns c = loop-one _ _ _ _ _ (omega arith) (omega arith) (omega arith) (omega arith) c.same.ensures c.if-same.false
+pub returns-else-same : goal.returns-else-same
+returns-else-same c =
+    elim c.if-n-len.branch [
+      | then-n-len w ↦ rw c.if-same.false (loop-one _ _ _ _ _ (omega arith) (omega arith) (omega arith) (omega arith) w.same.ensures (cc))
+      | else-n-len w ↦ rw c.if-same.false (loop-short _ _ _ _ _ (omega arith) (omega arith) (omega arith) (omega arith))
+    ]

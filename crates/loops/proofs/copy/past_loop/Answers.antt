@@ -3,14 +3,8 @@ use native.Mathlib.Omega.{arith}
 use Rattle.loops.proofs.Held.{goes-behind, goes_on_lem}
 use Rattle.loops.proofs.copy.past_loop.Goals as goal
 
-pub is_loop-requires : goal.is_loop-requires
-is_loop-requires c = (omega arith, (omega arith, (omega arith, omega arith)))
-
-pub copies_end-requires : goal.copies_end-requires
-copies_end-requires c = (omega arith, (omega arith, (omega arith, omega arith)))
-
 pub returns-then-is_loop : goal.returns-then-is_loop
 returns-then-is_loop c = (goes-behind _ _ _ _ _ (omega arith) (omega arith) (omega arith) c.is_loop.ensures c.if-is_loop.true c.copies_end.ensures.0, c.copies_end.ensures.1)
 
-pub returns : goal.returns
-returns c = (goes_on_lem _ _ _ _ _ (omega arith) (omega arith) (omega arith) c.is_loop.ensures c.if-is_loop.false, (omega arith, omega arith))
+pub returns-else-is_loop : goal.returns-else-is_loop
+returns-else-is_loop c = (goes_on_lem _ _ _ _ _ (omega arith) (omega arith) (omega arith) c.is_loop.ensures c.if-is_loop.false, (omega arith, omega arith))

@@ -5,10 +5,3 @@ use Rattle.loops.proofs.pass.pass.Goals as goal
 
 pub returns-then-len-n : goal.returns-then-len-n
 returns-then-len-n c = (pass-short _ _ (omega arith) _ _ c.requires.0 c.if-len-n.true, omega arith)
-
-pub collapse_runs-requires : goal.collapse_runs-requires
-collapse_runs-requires c =
-    (c.requires.0, (omega arith, (omega arith, (omega arith, omega arith))))
-
-pub returns : goal.returns
-returns c = c.collapse_runs.ensures

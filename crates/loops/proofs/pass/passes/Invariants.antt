@@ -1,4 +1,4 @@
-use Prim.Native.Nat.{◌-◌, ◌≤◌}
+use Prim.Native.Nat.{◌≤◌}
 use mathlib.Core.Path.{◌≡◌}
 use lib.ListN.{length}
 use Rattle.base.specs.Words.{words}
@@ -9,8 +9,5 @@ use Rattle.loops.proofs.pass.passes.Given as goal
 
 abbrev pub invariant-loop-n : goal.invariant-loop-n
 invariant-loop-n l =
-    OneLength (length l.initial.keys) (words l.starts l.ends l.letters l.units l.keys) × ((l.len ≤ length l.initial.keys) × ((1 ≤ l.n) × ((l.n ≤ 5)
-    × (loop_words (words l.initial.starts l.initial.ends l.initial.letters l.initial.units l.initial.keys) ≡ passes_from l.n (first_words l.len (words l.starts l.ends l.letters l.units l.keys))))))
-
-abbrev pub decreases-loop-n : goal.decreases-loop-n
-decreases-loop-n l = 5 - l.n
+    OneLength (length l.initial.keys) (words l.starts l.ends l.letters l.units l.keys) × ((l.len ≤ length l.initial.keys)
+    × (loop_words (words l.initial.starts l.initial.ends l.initial.letters l.initial.units l.initial.keys) ≡ passes_from l.n (first_words l.len (words l.starts l.ends l.letters l.units l.keys))))

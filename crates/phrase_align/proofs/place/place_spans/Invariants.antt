@@ -9,6 +9,3 @@ use Rattle.phrase_align.proofs.place.place_spans.Given as goal
 abbrev pub invariant-loop-p : goal.invariant-loop-p
 invariant-loop-p l = (l.at ≤ length l.letters) × ((length l.starts ≡ length l.initial.starts) × ((length l.ends ≡ length l.initial.ends) × ((length l.phrases ≡ length l.initial.phrases)
     × (held_spans l.letters (spans l.span_starts l.span_ends l.counts) (held l.initial.starts l.initial.ends l.initial.phrases 0) ≡ each (held_turn l.letters (spans l.span_starts l.span_ends l.counts)) (length l.counts - l.p) l.p (held l.starts l.ends l.phrases l.at)))))
-
-abbrev pub decreases-loop-p : goal.decreases-loop-p
-decreases-loop-p l = length l.counts - l.p

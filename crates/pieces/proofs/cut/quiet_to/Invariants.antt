@@ -1,11 +1,7 @@
-use Prim.Native.Nat.{◌-◌, ◌≤◌}
 use mathlib.Core.Path.{◌≡◌}
 use Rattle.envelope.specs.Envelope.{quiet_row}
 use Rattle.pieces.specs.Parts.{quiet_end}
 use Rattle.pieces.proofs.cut.quiet_to.Given as goal
 
 abbrev pub invariant-loop-k : goal.invariant-loop-k
-invariant-loop-k l = (l.from ≤ l.k) × ((l.k ≤ 800) × (quiet_end (quiet_row l.floor l.part) l.from ≡ quiet_end (quiet_row l.floor l.part) l.k))
-
-abbrev pub decreases-loop-k : goal.decreases-loop-k
-decreases-loop-k l = 800 - l.k
+invariant-loop-k l = quiet_end (quiet_row l.floor l.part) l.from ≡ quiet_end (quiet_row l.floor l.part) l.k

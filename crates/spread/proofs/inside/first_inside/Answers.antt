@@ -1,17 +1,18 @@
--- `spread::inside::first_inside` meets its contract: what is left of the search finds what the whole finds. Assumes nothing.
-use mathlib.Core.Path.{sym, ◌∙◌}
-use native.Mathlib.Omega.{arith}
-use Rattle.spread.proofs.InsideSpan.{first-start, first_next, first-stop, first_done}
+-- `spread::inside::first_inside` meets its contract: the code's search stops where the definition's does. Assumes nothing.
+use Rattle.std.proofs.Common.{rules, tests, arith, ◌≡◌, ◌∙◌, length}
+use native.Mathlib.Nat.{sub-zero}
+use Rattle.base.specs.Loop.{up}
+use Rattle.base.specs.Words.{edges}
+use Rattle.base.proofs.Loops.{up_le}
+use Rattle.base.proofs.Searches.{found_up}
+use Rattle.spread.specs.Spread.{outside_at, first_inside}
 use Rattle.spread.proofs.inside.first_inside.Goals as goal
 
-pub loop-i-init : goal.loop-i-init
-loop-i-init c = (omega arith, first-start _ _ _)
-
-pub returns-then-inside_at : goal.returns-then-inside_at
-returns-then-inside_at c = (sym (c.loop-i.invariant.1 ∙ first-stop _ _ _ _ c.inside_at.ensures c.if-inside_at.true), omega arith)
-
-pub loop-i-preserved : goal.loop-i-preserved
-loop-i-preserved c = (omega arith, c.loop-i.invariant.1 ∙ first_next _ _ _ _ c.loop-i-test.true c.inside_at.ensures c.if-inside_at.false)
-
 pub returns : goal.returns
-returns c = (sym (c.loop-i.invariant.1 ∙ first_done _ _ _ _ c.loop-i-test.false), omega arith)
+unfolding first_inside
+returns c =
+    let p = outside_at c.args.from c.args.to (edges c.args.starts.now c.args.ends.now) in
+    let n = length c.args.starts.now in
+    let found : c.unwrap_or.result ≡ up p n 0 =
+    c.unwrap_or.ensures ∙ rw sub-zero at (found_up _ p (λ x b q k. search (rules, tests)) _ _ _ (omega arith) c.find.ensures.ran) in
+    (found, omega (arith, found, up_le p n 0))

@@ -1,12 +1,12 @@
 -- `spread::inside::is_inside` meets its contract, test by test. Assumes nothing.
-use Rattle.spread.proofs.InsideSpan.{inside-all, inside-late, inside-early}
+use Rattle.std.proofs.Common.{rules}
+use Rattle.spread.specs.Spread.{inside}
 use Rattle.spread.proofs.inside.is_inside.Goals as goal
 
 pub returns-then-w-to : goal.returns-then-w-to
-returns-then-w-to c = inside-all _ _ _ c.if-w-from.true c.if-w-to.true
+unfolding inside
+returns-then-w-to c = search rules
 
 pub returns-else-w-to : goal.returns-else-w-to
-returns-else-w-to c = inside-late _ _ _ c.if-w-from.true c.if-w-to.false
-
-pub returns-else-w-from : goal.returns-else-w-from
-returns-else-w-from c = inside-early _ _ _ c.if-w-from.false
+unfolding inside
+returns-else-w-to c = search rules

@@ -1,17 +1,17 @@
--- `spread::inside::last_inside` meets its contract: what is left of the search finds what the whole finds. Assumes nothing.
-use mathlib.Core.Path.{sym, ◌∙◌}
-use native.Mathlib.Omega.{arith}
-use Rattle.spread.proofs.InsideSpan.{last-start, last-next, last-stop, last_done}
+-- `spread::inside::last_inside` meets its contract: the code's search stops where the definition's does. Assumes nothing.
+use Rattle.std.proofs.Common.{rules, tests, arith, ◌≡◌, ◌-◌, ◌∙◌, length}
+use Rattle.base.specs.Loop.{down}
+use Rattle.base.specs.Words.{edges}
+use Rattle.base.proofs.Loops.{down_le}
+use Rattle.base.proofs.Searches.{found_below}
+use Rattle.spread.specs.Spread.{outside_at, last_inside}
 use Rattle.spread.proofs.inside.last_inside.Goals as goal
 
-pub loop-last-init : goal.loop-last-init
-loop-last-init c = (omega arith, last-start _ _ _)
-
-pub returns-then-inside_at : goal.returns-then-inside_at
-returns-then-inside_at c = (sym (c.loop-last.invariant.1 ∙ last-stop _ _ _ _ c.inside_at.ensures c.if-inside_at.true), omega arith)
-
-pub loop-last-preserved : goal.loop-last-preserved
-loop-last-preserved c = (omega arith, c.loop-last.invariant.1 ∙ last-next _ _ _ _ c.loop-last-test.true c.inside_at.ensures c.if-inside_at.false)
-
 pub returns : goal.returns
-returns c = (sym (c.loop-last.invariant.1 ∙ last_done _ _ _ _ c.loop-last-test.false), omega arith)
+unfolding last_inside
+returns c =
+    let p = outside_at c.args.from c.args.to (edges c.args.starts.now c.args.ends.now) in
+    let n = length c.args.starts.now in
+    let found : c.unwrap_or.result ≡ down p (n - 1) =
+    c.unwrap_or.ensures ∙ found_below _ p (λ x b q k. search (rules, tests)) _ _ _ n c.rev.ensures.source c.find.ensures.ran in
+    (found, omega (arith, found, down_le p (n - 1)))

@@ -1,8 +1,0 @@
--- `c_api::placed` meets its contract, case by case. Assumes nothing.
-use Rattle.c_api.proofs.placed.Goals as goal
-
-pub returns-in-Accepted : goal.returns-in-Accepted
-returns-in-Accepted c = rw c.in-Accepted.is
-
-pub returns-in-Refused : goal.returns-in-Refused
-returns-in-Refused c = rw (c.in-Refused.is, c.number.ensures)

@@ -1,8 +1,0 @@
--- `vector_rows::is_nan` meets its contract: a NaN's bits, without the sign's, are above an infinity's. Assumes nothing.
-use mathlib.Core.Path.{sym}
-use lib.Ieee.{binary64}
-use lib.Ieee.Bits.{nan_bits_above}
-use Rattle.vector_rows.proofs.is_nan.Goals as goal
-
-pub returns : goal.returns
-returns c = sym (nan_bits_above binary64 c.args.bits)
