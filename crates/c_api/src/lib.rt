@@ -26,6 +26,7 @@ ghost use Rattle.c_api.specs.Answers.{report_of, full_run_with, full_run_of, run
 ghost use Rattle.frames.specs.Frames.{frame_at, frame_ceil, frame_from_zero, frame_seconds};
 
 use base::{Refusal, Times};
+use envelope::view::Envelope;
 use full_run::Report;
 use loops::Left;
 
@@ -158,7 +159,15 @@ pub extern "C" fn qiluvrait_pieces(
         × (ends.new
         ≡ (pieces_call levels.now floor count starts.old ends.old).ends)) }
 {
-    QiluvraitCut::from(pieces::pieces_at(levels, floor, count, starts, ends))
+    QiluvraitCut::from(pieces::pieces(
+        Envelope {
+            levels,
+            floor,
+            count,
+        },
+        starts,
+        ends,
+    ))
 }
 
 // What qiluvrait_peak answers: refusal 0 and the level, or the number of the refusal.
@@ -259,7 +268,18 @@ pub extern "C" fn qiluvrait_hand_back_tails(
         let after = words starts.new ends.new letters.now units.now keys.now in
         reply result after ≡ reply_of (tails_call before levels.now floor count) }
 {
-    let answer = tails::hand_back_tails(levels, floor, count, starts, ends, letters, units, keys);
+    let answer = tails::hand_back_tails(
+        Envelope {
+            levels,
+            floor,
+            count,
+        },
+        starts,
+        ends,
+        letters,
+        units,
+        keys,
+    );
     moved(answer)
 }
 
@@ -278,7 +298,18 @@ pub extern "C" fn qiluvrait_snap_onsets(
         let after = words starts.new ends.now letters.now units.now keys.now in
         reply result after ≡ reply_of (onsets_call before levels.now floor count) }
 {
-    let answer = onsets::snap_onsets(levels, floor, count, starts, ends, letters, units, keys);
+    let answer = onsets::snap_onsets(
+        Envelope {
+            levels,
+            floor,
+            count,
+        },
+        starts,
+        ends,
+        letters,
+        units,
+        keys,
+    );
     moved(answer)
 }
 
@@ -299,7 +330,17 @@ pub extern "C" fn qiluvrait_snap_ends(
         reply result after ≡ reply_of (ends_call before levels.now floor count duration) }
 {
     let answer = ends::snap_ends(
-        levels, floor, count, starts, ends, letters, units, keys, duration,
+        Envelope {
+            levels,
+            floor,
+            count,
+        },
+        starts,
+        ends,
+        letters,
+        units,
+        keys,
+        duration,
     );
     moved(answer)
 }
@@ -431,7 +472,15 @@ pub extern "C" fn qiluvrait_last_run(
 ) -> QiluvraitRun
     ensures { result ≡ searched_of (last_run_call levels.now floor count from to) }
 {
-    QiluvraitRun::from(last_run::last_run_at(levels, floor, count, from, to))
+    QiluvraitRun::from(last_run::last_run(
+        Envelope {
+            levels,
+            floor,
+            count,
+        },
+        from,
+        to,
+    ))
 }
 
 #[unsafe(no_mangle)]
@@ -451,7 +500,17 @@ pub extern "C" fn qiluvrait_fit_to_sound(
         reply result after ≡ reply_of (fit_call before levels.now floor count duration) }
 {
     let answer = fit_to_sound::fit_to_sound(
-        levels, floor, count, starts, ends, letters, units, keys, duration,
+        Envelope {
+            levels,
+            floor,
+            count,
+        },
+        starts,
+        ends,
+        letters,
+        units,
+        keys,
+        duration,
     );
     moved(answer)
 }
@@ -484,10 +543,12 @@ pub extern "C" fn qiluvrait_fit_file(
         × (Unchanged result work_ends.old work_ends.new
         × Unchanged result work_letters.old work_letters.new)) }
 {
-    let answer = fit_file::fit_file_at(
-        levels,
-        floor,
-        count,
+    let answer = fit_file::fit_file(
+        Envelope {
+            levels,
+            floor,
+            count,
+        },
         starts,
         ends,
         letters,
@@ -612,10 +673,12 @@ pub extern "C" fn qiluvrait_tally(
         tallied result places.new
         ≡ tallied_of (tally_call before phrases.now all_spans levels.now floor count places.old) }
 {
-    let answer = tally::tally_at(
-        levels,
-        floor,
-        count,
+    let answer = tally::tally(
+        Envelope {
+            levels,
+            floor,
+            count,
+        },
         starts,
         ends,
         letters,

@@ -3,15 +3,15 @@
 
 ghost use Rattle.std.specs.Prelude.{◌≡◌, ◌+◌, ◌<◌, ◌≤◌, ◌^◌, length};
 ghost use Rattle.base.specs.Words.{words, edges};
-ghost use Rattle.envelope.specs.Envelope.{loud_row};
 ghost use Rattle.word_calls.specs.Calls.{output};
 ghost use Rattle.ends.specs.Ends.{end_turn, snap_ends, ends_call, set_pair};
+ghost use Rattle.envelope.specs.Frames.{loud_in};
 
 use base::{Refusal, Times};
+use envelope::view::Envelope;
 
 pub mod one_word;
 pub mod sound;
-pub mod view;
 
 // Stores the times of the first of two words, and the edge as the second's start.
 #[tactic(auto, unfolding(crate::specs::Ends::set_pair))]
@@ -29,17 +29,16 @@ fn snap_end(
     starts: &mut [f64],
     ends: &mut [f64],
     units: &[u32],
-    levels: &[f64],
-    floor: f64,
+    e: Envelope<'_>,
     duration: f64,
     i: usize,
 )
     requires { (i < length starts.old)
         × ((length ends.old ≡ length starts.old)
-        × ((length units.now ≡ length starts.old) × (length levels.now ≤ 2 ^ 40))) }
+        × ((length units.now ≡ length starts.old) × (length e.levels.now ≤ 2 ^ 40))) }
     ensures { let before = edges starts.old ends.old in
         let after = edges starts.new ends.new in
-        after ≡ end_turn (loud_row floor levels.now) duration units.now i before }
+        after ≡ end_turn (loud_in e.entry) duration units.now i before }
 {
     let w = Times {
         start: starts[i],
@@ -47,11 +46,11 @@ fn snap_end(
     };
     let next = one_word::next_start(starts, i);
     if one_word::is_pair(next, w) {
-        let t = one_word::pair_of(levels, floor, w, ends[i + 1], units[i], units[i + 1]);
+        let t = one_word::pair_of(e, w, ends[i + 1], units[i], units[i + 1]);
         set_pair(starts, ends, i, t);
         return;
     }
-    let cut = one_word::end_of(levels, floor, duration, next, w);
+    let cut = one_word::end_of(e, duration, next, w);
     ends[i] = cut.end;
 }
 
@@ -60,25 +59,22 @@ pub fn move_ends(
     starts: &mut [f64],
     ends: &mut [f64],
     units: &[u32],
-    levels: &[f64],
-    floor: f64,
+    e: Envelope<'_>,
     duration: f64,
 )
-    requires { (length ends.old ≡ length starts.old) × ((length units.now ≡ length starts.old) × (length levels.now ≤ 2 ^ 40)) }
+    requires { (length ends.old ≡ length starts.old) × ((length units.now ≡ length starts.old) × (length e.levels.now ≤ 2 ^ 40)) }
     ensures { let before = edges starts.old ends.old in
         let after = edges starts.new ends.new in
-        after ≡ snap_ends (loud_row floor levels.now) duration units.now before }
+        after ≡ snap_ends (loud_in e.entry) duration units.now before }
 {
     for i in 0..starts.len() {
-        snap_end(starts, ends, units, levels, floor, duration, i);
+        snap_end(starts, ends, units, e, duration, i);
     }
 }
 
 // Moves loose ends to where the sound stops, of words, levels and a duration within the limits (onsets.rs, snap_ends).
 pub fn snap_ends(
-    levels: &[f64],
-    floor: f64,
-    count: usize,
+    e: Envelope<'_>,
     starts: &mut [f64],
     ends: &mut [f64],
     letters: &[u32],
@@ -88,7 +84,7 @@ pub fn snap_ends(
 ) -> Result<(), Refusal>
     ensures { let before = words starts.old ends.old letters.now units.now keys.now in
         let after = words starts.new ends.new letters.now units.now keys.now in
-        output result after ≡ ends_call before levels.now floor count duration }
+        output result after ≡ ends_call before e.entry.levels.now e.entry.floor e.entry.count duration }
 {
     word_calls::timed_rule(
         starts,
@@ -96,10 +92,10 @@ pub fn snap_ends(
         letters,
         units,
         keys,
-        levels.len(),
-        count,
+        e.levels.len(),
+        e.count,
         duration,
     )?;
-    move_ends(starts, ends, units, levels, floor, duration);
+    move_ends(starts, ends, units, e, duration);
     Ok(())
 }

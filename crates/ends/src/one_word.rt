@@ -1,10 +1,11 @@
 // One word's times: its end moved to where the sound stops, or the edge that it shares with the next (onsets.rs, snap_ends).
 ghost use Rattle.std.specs.Prelude.{◌≡◌, ◌+◌, ◌<◌, ◌≤◌, ◌^◌, length};
-ghost use Rattle.envelope.specs.Envelope.{loud_row};
 ghost use Rattle.ends.specs.Ends.{next_start, soon as soon_of, is_pair, pair_start, pair_edge, pair_of, reach as reach_of, or_duration, trimmed, end_of};
 ghost use Rattle.ends.specs.Parts.{is_loose};
+ghost use Rattle.envelope.specs.Frames.{loud_in};
 
 use base::Times;
+use envelope::view::Envelope;
 
 // A shorter word, in seconds, is too short to be one.
 const NO_LENGTH: f64 = 0.06;
@@ -64,15 +65,16 @@ pub fn or_duration(next: Option<f64>, duration: f64) -> f64
 }
 
 // A word that is no pair with the next: its times, with its end by its sound.
-pub fn end_of(levels: &[f64], floor: f64, duration: f64, next: Option<f64>, w: Times) -> Times
-    requires { length levels.now ≤ 2 ^ 40 }
-    ensures { result ≡ end_of (loud_row floor levels.now) duration next w }
+pub fn end_of(e: Envelope<'_>, duration: f64, next: Option<f64>, w: Times) -> Times
+    requires { length e.levels.now ≤ 2 ^ 40 }
+    ensures { result ≡ end_of (loud_in e.entry) duration next w }
 {
     let lo = frames::frame_index(w.start);
-    let hi = levels
+    let hi = e
+        .levels
         .len()
         .min(frames::frame_index(reach(next, duration, w.start)));
-    let past = super::sound::last_loud(levels, floor, EDGE_QUIET, lo, hi);
+    let past = super::sound::last_loud(e, EDGE_QUIET, lo, hi);
     trim(
         super::sound::sound_end(past),
         or_duration(next, duration),
@@ -105,13 +107,13 @@ pub fn is_pair(next: Option<f64>, w: Times) -> bool
 }
 
 // Where the first of two words that share an edge starts: at the first loud frame up to the next word's end, if that is later.
-fn pair_start(levels: &[f64], floor: f64, start: f64, next_end: f64) -> f64
-    requires { length levels.now ≤ 2 ^ 40 }
-    ensures { result ≡ pair_start (loud_row floor levels.now) start next_end }
+fn pair_start(e: Envelope<'_>, start: f64, next_end: f64) -> f64
+    requires { length e.levels.now ≤ 2 ^ 40 }
+    ensures { result ≡ pair_start (loud_in e.entry) start next_end }
 {
     let lo = frames::frame_index(start);
-    let hi = levels.len().min(frames::frame_index(next_end));
-    let k = envelope::first_frame(levels, floor, true, lo, hi);
+    let hi = e.levels.len().min(frames::frame_index(next_end));
+    let k = e.first_frame(true, lo, hi);
     if k < hi {
         return js::js_max(start, frames::index_seconds(k));
     }
@@ -129,11 +131,11 @@ fn pair_edge(start: f64, next_end: f64, own: u32, other: u32) -> f64
 
 // The times of the first of two words that share an edge.
 #[tactic(auto, unfolding(crate::specs::Ends::pair_of))]
-pub fn pair_of(levels: &[f64], floor: f64, w: Times, next_end: f64, own: u32, other: u32) -> Times
-    requires { length levels.now ≤ 2 ^ 40 }
-    ensures { result ≡ pair_of (loud_row floor levels.now) w next_end own other }
+pub fn pair_of(e: Envelope<'_>, w: Times, next_end: f64, own: u32, other: u32) -> Times
+    requires { length e.levels.now ≤ 2 ^ 40 }
+    ensures { result ≡ pair_of (loud_in e.entry) w next_end own other }
 {
-    let start = pair_start(levels, floor, w.start, next_end);
+    let start = pair_start(e, w.start, next_end);
     Times {
         start,
         end: pair_edge(start, next_end, own, other),

@@ -1,3 +1,4 @@
 -- Levels, floor, loud and quiet frames; the call.
 pub mod Envelope
+pub mod Frames
 pub mod Parts

@@ -1,10 +1,9 @@
-// The levels of a recording and the floor under them, by one call, and loud frames (envelope.rs).
+// The levels of a recording and the floor under them, by one call (envelope.rs).
 #![tactic(auto)]
 
-ghost use Rattle.std.specs.Prelude.{◌≡◌, ◌≤◌, false, length, slice_index_or};
+ghost use Rattle.std.specs.Prelude.{◌≡◌, ◌≤◌, length};
 ghost use Rattle.base.specs.Refusals.{first};
-ghost use Rattle.envelope.specs.Envelope.{frames, loud_row, output, tests, accepted, envelope_call};
-ghost use Rattle.envelope.specs.Parts.{Met, Past};
+ghost use Rattle.envelope.specs.Envelope.{frames, output, tests, accepted, envelope_call};
 
 use base::Refusal;
 
@@ -45,38 +44,4 @@ pub fn envelope(samples: &[f32], levels: &mut [f64]) -> Result<f64, Refusal>
 {
     judge(samples, levels)?;
     Ok(accept(samples, levels))
-}
-
-// Whether frame k is over the floor; a frame outside is not (envelope.rs, loud).
-pub fn loud_at(levels: &[f64], floor: f64, k: usize) -> bool
-    ensures { result ≡ slice_index_or (loud_row floor levels.now) k false }
-{
-    if k < levels.len() {
-        return levels[k] > floor;
-    }
-    false
-}
-
-// The first frame from lo to before hi that is loud, or that is not; where there is none, the end of the search.
-pub fn first_frame(levels: &[f64], floor: f64, want: bool, lo: usize, hi: usize) -> usize
-    ensures { Met (loud_row floor levels.now) want lo hi result }
-{
-    for k in lo..hi {
-        if loud_at(levels, floor, k) == want {
-            return k;
-        }
-    }
-    lo.max(hi)
-}
-
-// The frame past the last loud one from lo to before hi; lo where there is none.
-pub fn last_frame(levels: &[f64], floor: f64, lo: usize, hi: usize) -> usize
-    ensures { Past (loud_row floor levels.now) lo hi result }
-{
-    for k in (lo..hi).rev() {
-        if loud_at(levels, floor, k) {
-            return k + 1;
-        }
-    }
-    lo
 }

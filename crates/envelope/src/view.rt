@@ -1,50 +1,71 @@
-// An envelope: its levels and its floor together, with the sample count (document 01; envelope.rs, Envelope), and thin functions over it.
+// An envelope: its levels and its floor together, with the sample count, and what is asked of it (document 01; envelope.rs, Envelope).
 ghost use Rattle.std.specs.Prelude.{◌≡◌, false, length, slice_index_or};
-ghost use Rattle.envelope.specs.Envelope.{loud_row, own_floor};
+ghost use Rattle.envelope.specs.Envelope.{own_floor};
+ghost use Rattle.envelope.specs.Frames.{loud_in};
+ghost use Rattle.envelope.specs.Parts.{Met, Past};
 
 // The levels of a recording of `count` samples, and the floor under them.
-#[derive(Drop)]
+#[derive(Clone, Copy)]
 pub struct Envelope<'a> {
     pub levels: &'a [f64],
     pub floor: f64,
     pub count: usize,
 }
 
-// The envelope of these levels, this floor and this count.
-pub fn new<'a>(levels: &'a [f64], floor: f64, count: usize) -> Envelope<'a>
-    ensures { (result.levels ≡ levels.entry) × ((result.floor ≡ floor) × (result.count ≡ count)) }
-{
-    Envelope {
-        levels,
-        floor,
-        count,
+impl<'a> Envelope<'a> {
+    // The envelope of these levels, this floor and this count.
+    pub fn new(levels: &'a [f64], floor: f64, count: usize) -> Envelope<'a>
+        ensures { (result.levels ≡ levels.entry) × ((result.floor ≡ floor) × (result.count ≡ count)) }
+    {
+        Envelope {
+            levels,
+            floor,
+            count,
+        }
     }
-}
 
-// The number of frames (envelope.rs, frames).
-pub fn frames<'a>(e: Envelope<'a>) -> usize
-    ensures { result ≡ length e.entry.levels.now }
-{
-    e.levels.len()
-}
+    // The number of frames (envelope.rs, frames).
+    pub fn frames(self) -> usize
+        ensures { result ≡ length self.entry.levels.now }
+    {
+        self.levels.len()
+    }
 
-// Whether frame k, counted from zero, is over the floor; a frame outside is not (envelope.rs, loud).
-pub fn loud<'a>(e: Envelope<'a>, k: usize) -> bool
-    ensures { result ≡ slice_index_or (loud_row e.entry.floor e.entry.levels.now) k false }
-{
-    super::loud_at(e.levels, e.floor, k)
-}
+    // Whether frame k, counted from zero, is over the floor; a frame outside is not (envelope.rs, loud).
+    pub fn loud(self, k: usize) -> bool
+        ensures { result ≡ slice_index_or (loud_in self.entry) k false }
+    {
+        k < self.levels.len() && self.levels[k] > self.floor
+    }
 
-// Whether the floor is the one that the levels give.
-pub fn own<'a>(e: Envelope<'a>) -> bool
-    ensures { result ≡ own_floor e.entry.levels.now e.entry.floor }
-{
-    super::floor::own_floor(e.levels, e.floor)
-}
+    // Whether the floor is the one that the levels give.
+    pub fn own(self) -> bool
+        ensures { result ≡ own_floor self.entry.levels.now self.entry.floor }
+    {
+        super::floor::own_floor(self.levels, self.floor)
+    }
 
-// `loud` for a caller that has the levels, the floor and the count apart.
-pub fn loud_in(levels: &[f64], floor: f64, count: usize, k: usize) -> bool
-    ensures { result ≡ slice_index_or (loud_row floor levels.now) k false }
-{
-    loud(new(levels, floor, count), k)
+    // The first frame from lo to before hi that is loud, or that is not; where there is none, the end of the search.
+    pub fn first_frame(self, want: bool, lo: usize, hi: usize) -> usize
+        ensures { Met (loud_in self.entry) want lo hi result }
+    {
+        for k in lo..hi {
+            if self.loud(k) == want {
+                return k;
+            }
+        }
+        lo.max(hi)
+    }
+
+    // The frame past the last loud one from lo to before hi; lo where there is none.
+    pub fn last_frame(self, lo: usize, hi: usize) -> usize
+        ensures { Past (loud_in self.entry) lo hi result }
+    {
+        for k in (lo..hi).rev() {
+            if self.loud(k) {
+                return k + 1;
+            }
+        }
+        lo
+    }
 }

@@ -1,8 +1,10 @@
 // Words fitted to their sound, phrase by phrase (fit.rs, the loop of fit_file).
 ghost use Rattle.std.specs.Prelude.{◌≡◌, ◌≤◌, ◌^◌, length};
 ghost use Rattle.base.specs.Words.{edges, times};
-ghost use Rattle.envelope.specs.Envelope.{loud_row};
 ghost use Rattle.fit_file.specs.FitFile.{fit_phrase, fit_file};
+ghost use Rattle.envelope.specs.Frames.{loud_in};
+
+use envelope::view::Envelope;
 
 // Fits the words of phrase p, whose span is from `from` to `to`, in the work space, and puts them back.
 fn fit_phrase(
@@ -11,8 +13,7 @@ fn fit_phrase(
     letters: &[u32],
     phrases: &[u32],
     p: u32,
-    levels: &[f64],
-    floor: f64,
+    e: Envelope<'_>,
     duration: f64,
     from: f64,
     to: f64,
@@ -24,13 +25,13 @@ fn fit_phrase(
         × ((length letters.now ≡ length starts.old)
         × ((length phrases.now ≡ length starts.old)
         × ((length starts.old ≤ 4096)
-        × ((length levels.now ≤ 2 ^ 40)
+        × ((length e.levels.now ≤ 2 ^ 40)
         × ((length starts.old ≤ length work_starts.old)
         × ((length starts.old ≤ length work_ends.old) × (length starts.old ≤ length work_letters.old))))))) }
     ensures { let before = edges starts.old ends.old in
         let after = edges starts.new ends.new in
         after
-        ≡ fit_phrase (loud_row floor levels.now) duration letters.now phrases.now (times from to) p before }
+        ≡ fit_phrase (loud_in e.entry) duration letters.now phrases.now (times from to) p before }
 {
     let n = super::group::gather(
         starts,
@@ -49,8 +50,7 @@ fn fit_phrase(
         &mut work_starts[0..n],
         &mut work_ends[0..n],
         &work_letters[0..n],
-        levels,
-        floor,
+        e,
         duration,
         from,
         to,
@@ -66,8 +66,7 @@ pub fn fit_phrases(
     phrases: &[u32],
     span_starts: &[f64],
     span_ends: &[f64],
-    levels: &[f64],
-    floor: f64,
+    e: Envelope<'_>,
     duration: f64,
     work_starts: &mut [f64],
     work_ends: &mut [f64],
@@ -77,14 +76,14 @@ pub fn fit_phrases(
         × ((length letters.now ≡ length starts.old)
         × ((length phrases.now ≡ length starts.old)
         × ((length starts.old ≤ 4096)
-        × ((length levels.now ≤ 2 ^ 40)
+        × ((length e.levels.now ≤ 2 ^ 40)
         × ((length starts.old ≤ length work_starts.old)
         × ((length starts.old ≤ length work_ends.old)
         × ((length starts.old ≤ length work_letters.old)
         × ((length span_ends.now ≡ length span_starts.now) × (length span_starts.now ≤ 4096))))))))) }
     ensures { let before = edges starts.old ends.old in
         let after = edges starts.new ends.new in
-        let loud_frames = loud_row floor levels.now in
+        let loud_frames = loud_in e.entry in
         after
         ≡ fit_file loud_frames duration letters.now phrases.now
         (edges span_starts.now span_ends.now) before }
@@ -96,8 +95,7 @@ pub fn fit_phrases(
             letters,
             phrases,
             p as u32,
-            levels,
-            floor,
+            e,
             duration,
             span_starts[p],
             span_ends[p],

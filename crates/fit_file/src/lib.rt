@@ -7,11 +7,11 @@ ghost use Rattle.word_calls.specs.Calls.{output};
 ghost use Rattle.fit_file.specs.FitFile.{duration_of, work_places, fit_file_call, Unchanged};
 
 use base::Refusal;
+use envelope::view::Envelope;
 
 pub mod each_phrase;
 pub mod group;
 pub mod one_phrase;
-pub mod view;
 
 // Samples in a second.
 const RATE: f64 = 16000.0;
@@ -24,10 +24,8 @@ pub fn duration_of(count: usize) -> f64
 }
 
 // Fits words to their sound, phrase by phrase, all within the limits (fit.rs, fit_file).
-pub fn fit_file_at(
-    levels: &[f64],
-    floor: f64,
-    count: usize,
+pub fn fit_file(
+    e: Envelope<'_>,
     starts: &mut [f64],
     ends: &mut [f64],
     letters: &[u32],
@@ -45,7 +43,7 @@ pub fn fit_file_at(
         let after = words starts.new ends.new letters.now units.now keys.now in
         let all_spans = spans span_starts.now span_ends.now counts.now in
         let room = work_places (length work_starts.old) (length work_ends.old) (length work_letters.old) in
-        (output result after ≡ fit_file_call before phrases.now all_spans levels.now floor count room)
+        (output result after ≡ fit_file_call before phrases.now all_spans e.entry.levels.now e.entry.floor e.entry.count room)
         × (Unchanged result work_starts.old work_starts.new
         × (Unchanged result work_ends.old work_ends.new
         × Unchanged result work_letters.old work_letters.new)) }
@@ -64,8 +62,8 @@ pub fn fit_file_at(
         span_starts,
         span_ends,
         counts,
-        levels.len(),
-        count,
+        e.levels.len(),
+        e.count,
         places,
         keys.len(),
     )?;
@@ -76,9 +74,8 @@ pub fn fit_file_at(
         phrases,
         span_starts,
         span_ends,
-        levels,
-        floor,
-        duration_of(count),
+        e,
+        duration_of(e.count),
         work_starts,
         work_ends,
         work_letters,

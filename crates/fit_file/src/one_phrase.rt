@@ -1,10 +1,11 @@
 // The words of one phrase, fitted to their sound and kept inside their span (fit.rs, fit_file).
 ghost use Rattle.std.specs.Prelude.{◌≡◌, ◌<◌, ◌≤◌, ◌^◌, length};
 ghost use Rattle.base.specs.Words.{edges, times};
-ghost use Rattle.envelope.specs.Envelope.{loud_row};
 ghost use Rattle.fit_file.specs.FitFile.{inside_span, keep_inside, make_way, take_sound, take_run, take_trailing, fit_group};
+ghost use Rattle.envelope.specs.Frames.{loud_in};
 
 use base::Times;
+use envelope::view::Envelope;
 
 // A phrase's words last so many seconds at the least.
 const MIN_WORD: f64 = 0.04;
@@ -81,15 +82,15 @@ fn take_run(starts: &mut [f64], ends: &mut [f64], run: Option<Times>, after: f64
 }
 
 // The last word takes the sound at the end of its span that no word has.
-fn take_trailing(starts: &mut [f64], ends: &mut [f64], levels: &[f64], floor: f64, to: f64)
-    requires { (0 < length starts.old) × ((length ends.old ≡ length starts.old) × (length levels.now ≤ 2 ^ 40)) }
+fn take_trailing(starts: &mut [f64], ends: &mut [f64], e: Envelope<'_>, to: f64)
+    requires { (0 < length starts.old) × ((length ends.old ≡ length starts.old) × (length e.levels.now ≤ 2 ^ 40)) }
     ensures { let before = edges starts.old ends.old in
         let after = edges starts.new ends.new in
-        after ≡ take_trailing (loud_row floor levels.now) to before }
+        after ≡ take_trailing (loud_in e.entry) to before }
 {
     let last = starts.len() - 1;
     let after = ends[last] + TRAILING_GAP;
-    let run = last_run::run_between(levels, floor, after, to);
+    let run = last_run::run_between(e, after, to);
     take_run(starts, ends, run, after, last);
 }
 
@@ -98,28 +99,20 @@ pub fn fit_group(
     starts: &mut [f64],
     ends: &mut [f64],
     letters: &[u32],
-    levels: &[f64],
-    floor: f64,
+    e: Envelope<'_>,
     duration: f64,
     from: f64,
     to: f64,
 )
     requires { (0 < length starts.old)
         × ((length ends.old ≡ length starts.old)
-        × ((length letters.now ≡ length starts.old) × ((length starts.old ≤ 4096) × (length levels.now ≤ 2 ^ 40)))) }
+        × ((length letters.now ≡ length starts.old) × ((length starts.old ≤ 4096) × (length e.levels.now ≤ 2 ^ 40)))) }
     ensures { let before = edges starts.old ends.old in
         let after = edges starts.new ends.new in
-        after ≡ fit_group (loud_row floor levels.now) duration (times from to) letters.now before }
+        after ≡ fit_group (loud_in e.entry) duration (times from to) letters.now before }
 {
-    fit_to_sound::fit_words(
-        starts,
-        ends,
-        letters,
-        levels,
-        floor,
-        js::js_min(duration, to),
-    );
+    fit_to_sound::fit_words(starts, ends, letters, e, js::js_min(duration, to));
     keep_inside(starts, ends, from, to);
-    take_trailing(starts, ends, levels, floor, to);
+    take_trailing(starts, ends, e, to);
     even::even_words(starts, ends, letters, to);
 }

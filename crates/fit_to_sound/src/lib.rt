@@ -3,13 +3,13 @@
 
 ghost use Rattle.std.specs.Prelude.{◌≡◌, ◌≤◌, ◌^◌, length};
 ghost use Rattle.base.specs.Words.{words, edges};
-ghost use Rattle.envelope.specs.Envelope.{loud_row};
 ghost use Rattle.word_calls.specs.Calls.{output};
 ghost use Rattle.fit_to_sound.specs.FitToSound.{fit_to_sound, fit_call};
+ghost use Rattle.envelope.specs.Frames.{loud_in};
 
 use base::Refusal;
+use envelope::view::Envelope;
 
-pub mod view;
 pub mod word_ends;
 pub mod word_starts;
 
@@ -18,29 +18,26 @@ pub fn fit_words(
     starts: &mut [f64],
     ends: &mut [f64],
     letters: &[u32],
-    levels: &[f64],
-    floor: f64,
+    e: Envelope<'_>,
     duration: f64,
 )
     requires { (length ends.old ≡ length starts.old)
-        × ((length letters.now ≡ length starts.old) × ((length starts.old ≤ 4096) × (length levels.now ≤ 2 ^ 40))) }
+        × ((length letters.now ≡ length starts.old) × ((length starts.old ≤ 4096) × (length e.levels.now ≤ 2 ^ 40))) }
     ensures { let before = edges starts.old ends.old in
         let after = edges starts.new ends.new in
-        after ≡ fit_to_sound (loud_row floor levels.now) duration letters.now before }
+        after ≡ fit_to_sound (loud_in e.entry) duration letters.now before }
 {
     word_starts::put_in_order(starts, ends, duration);
-    word_starts::move_to_rise(starts, ends, levels, floor);
+    word_starts::move_to_rise(starts, ends, e);
     word_starts::clip(starts, ends);
     even::even_words(starts, ends, letters, f64::INFINITY);
-    word_ends::settle_ends(starts, ends, letters, levels, floor, duration);
+    word_ends::settle_ends(starts, ends, letters, e, duration);
     even::even_words(starts, ends, letters, duration);
 }
 
 // Fits words to their sound, of words, levels and a duration within the limits (fit.rs, fit_to_sound).
 pub fn fit_to_sound(
-    levels: &[f64],
-    floor: f64,
-    count: usize,
+    e: Envelope<'_>,
     starts: &mut [f64],
     ends: &mut [f64],
     letters: &[u32],
@@ -50,7 +47,7 @@ pub fn fit_to_sound(
 ) -> Result<(), Refusal>
     ensures { let before = words starts.old ends.old letters.now units.now keys.now in
         let after = words starts.new ends.new letters.now units.now keys.now in
-        output result after ≡ fit_call before levels.now floor count duration }
+        output result after ≡ fit_call before e.entry.levels.now e.entry.floor e.entry.count duration }
 {
     word_calls::timed_rule(
         starts,
@@ -58,10 +55,10 @@ pub fn fit_to_sound(
         letters,
         units,
         keys,
-        levels.len(),
-        count,
+        e.levels.len(),
+        e.count,
         duration,
     )?;
-    fit_words(starts, ends, letters, levels, floor, duration);
+    fit_words(starts, ends, letters, e, duration);
     Ok(())
 }

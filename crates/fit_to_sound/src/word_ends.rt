@@ -1,11 +1,12 @@
 // Ends settled on their sound (fit.rs, fit_to_sound, steps 5 and 6).
 ghost use Rattle.std.specs.Prelude.{◌≡◌, ◌<◌, ◌≤◌, ◌^◌, pos, length, Float, Bool, List};
 ghost use Rattle.base.specs.Words.{edges};
-ghost use Rattle.envelope.specs.Envelope.{loud_row};
 ghost use Rattle.fit_to_sound.specs.FitToSound.{sound_end_in, quiet_between, quiet_run, cut_back, lasts_to, ended_by, end_of, settle_ends};
 ghost use Rattle.fit_to_sound.specs.Parts.{counted as counted_of, is_loose};
+ghost use Rattle.envelope.specs.Frames.{loud_in};
 
 use base::Times;
+use envelope::view::Envelope;
 
 // So many quiet frames in a row, 150 ms, end a word.
 const END_SILENCE: usize = 15;
@@ -16,13 +17,13 @@ const MAX_NEED: f64 = 0.3;
 // What a letter needs, in seconds, at the least.
 const LETTER_TIME: f64 = 0.05;
 // Where the sound that starts between two times ends, or no sound (fit.rs, sound_end).
-fn sound_end_in(levels: &[f64], floor: f64, from: f64, to: f64) -> Option<f64>
-    requires { length levels.now ≤ 2 ^ 40 }
-    ensures { result ≡ sound_end_in (loud_row floor levels.now) from to }
+fn sound_end_in(e: Envelope<'_>, from: f64, to: f64) -> Option<f64>
+    requires { length e.levels.now ≤ 2 ^ 40 }
+    ensures { result ≡ sound_end_in (loud_in e.entry) from to }
 {
     let lo = frames::frame_index(from);
-    let hi = levels.len().min(frames::frame_index(to));
-    ends::sound::sound_end(ends::sound::last_loud(levels, floor, END_SILENCE, lo, hi))
+    let hi = e.levels.len().min(frames::frame_index(to));
+    ends::sound::sound_end(ends::sound::last_loud(e, END_SILENCE, lo, hi))
 }
 
 // So many quiet frames in a row, with one frame more.
@@ -38,12 +39,12 @@ fn counted(run: usize, loud: bool) -> usize
 }
 
 // Whether 15 quiet frames in a row lie from lo to before hi.
-fn quiet_between(levels: &[f64], floor: f64, lo: usize, hi: usize) -> bool
-    ensures { result ≡ quiet_between (loud_row floor levels.now) (pos lo) (pos hi) }
+fn quiet_between(e: Envelope<'_>, lo: usize, hi: usize) -> bool
+    ensures { result ≡ quiet_between (loud_in e.entry) (pos lo) (pos hi) }
 {
     let mut run = 0;
     for k in lo..hi {
-        run = counted(run, envelope::loud_at(levels, floor, k));
+        run = counted(run, e.loud(k));
         if run >= END_SILENCE {
             return true;
         }
@@ -52,13 +53,13 @@ fn quiet_between(levels: &[f64], floor: f64, lo: usize, hi: usize) -> bool
 }
 
 // Whether 150 ms of silence lie between two times (fit.rs, quiet_run).
-fn quiet_run(levels: &[f64], floor: f64, from: f64, to: f64) -> bool
-    requires { length levels.now ≤ 2 ^ 40 }
-    ensures { result ≡ quiet_run (loud_row floor levels.now) from to }
+fn quiet_run(e: Envelope<'_>, from: f64, to: f64) -> bool
+    requires { length e.levels.now ≤ 2 ^ 40 }
+    ensures { result ≡ quiet_run (loud_in e.entry) from to }
 {
     let lo = frames::frame_index(from);
-    let hi = levels.len().min(frames::frame_index(to));
-    quiet_between(levels, floor, lo, hi)
+    let hi = e.levels.len().min(frames::frame_index(to));
+    quiet_between(e, lo, hi)
 }
 
 // Whether a word's end lies too far past its sound's end, and the sound is long enough for its letters.
@@ -85,11 +86,11 @@ fn cut_back(letters: u32, end: f64, w: Times) -> Times
 
 // A word whose next one starts at `next` lasts until that, where no silence lies between.
 #[tactic(auto, unfolding(crate::specs::FitToSound::lasts_to))]
-fn lasts_to_next(levels: &[f64], floor: f64, next: f64, w: Times) -> Times
-    requires { length levels.now ≤ 2 ^ 40 }
-    ensures { (end : Float) → result ≡ lasts_to (loud_row floor levels.now) (Some next) end w }
+fn lasts_to_next(e: Envelope<'_>, next: f64, w: Times) -> Times
+    requires { length e.levels.now ≤ 2 ^ 40 }
+    ensures { (end : Float) → result ≡ lasts_to (loud_in e.entry) (Some next) end w }
 {
-    if next > w.end && !quiet_run(levels, floor, w.end, next) {
+    if next > w.end && !quiet_run(e, w.end, next) {
         return Times {
             start: w.start,
             end: next,
@@ -113,53 +114,34 @@ fn lasts_to_end(end: f64, w: Times) -> Times
 }
 
 // A word lasts until the next one, where no silence lies between; the last one until its sound's end (fit_to_sound, step 6).
-fn lasts_to(levels: &[f64], floor: f64, next: Option<f64>, end: f64, w: Times) -> Times
-    requires { length levels.now ≤ 2 ^ 40 }
-    ensures { result ≡ lasts_to (loud_row floor levels.now) next end w }
+fn lasts_to(e: Envelope<'_>, next: Option<f64>, end: f64, w: Times) -> Times
+    requires { length e.levels.now ≤ 2 ^ 40 }
+    ensures { result ≡ lasts_to (loud_in e.entry) next end w }
 {
     match next {
-        Some(s) => lasts_to_next(levels, floor, s, w),
+        Some(s) => lasts_to_next(e, s, w),
         None => lasts_to_end(end, w),
     }
 }
 
 // A word's times, by where its sound ends.
-fn ended_by(
-    levels: &[f64],
-    floor: f64,
-    next: Option<f64>,
-    letters: u32,
-    sound: Option<f64>,
-    w: Times,
-) -> Times
-    requires { length levels.now ≤ 2 ^ 40 }
-    ensures { result ≡ ended_by (loud_row floor levels.now) next letters sound w }
+fn ended_by(e: Envelope<'_>, next: Option<f64>, letters: u32, sound: Option<f64>, w: Times) -> Times
+    requires { length e.levels.now ≤ 2 ^ 40 }
+    ensures { result ≡ ended_by (loud_in e.entry) next letters sound w }
 {
     match sound {
         None => w,
-        Some(end) => lasts_to(levels, floor, next, end, cut_back(letters, end, w)),
+        Some(end) => lasts_to(e, next, end, cut_back(letters, end, w)),
     }
 }
 
 // A word's times, its end settled on its sound.
-fn end_of(
-    levels: &[f64],
-    floor: f64,
-    duration: f64,
-    next: Option<f64>,
-    letters: u32,
-    w: Times,
-) -> Times
-    requires { length levels.now ≤ 2 ^ 40 }
-    ensures { result ≡ end_of (loud_row floor levels.now) duration next letters w }
+fn end_of(e: Envelope<'_>, duration: f64, next: Option<f64>, letters: u32, w: Times) -> Times
+    requires { length e.levels.now ≤ 2 ^ 40 }
+    ensures { result ≡ end_of (loud_in e.entry) duration next letters w }
 {
-    let sound = sound_end_in(
-        levels,
-        floor,
-        w.start,
-        ends::one_word::or_duration(next, duration),
-    );
-    ended_by(levels, floor, next, letters, sound, w)
+    let sound = sound_end_in(e, w.start, ends::one_word::or_duration(next, duration));
+    ended_by(e, next, letters, sound, w)
 }
 
 // Settles each word's end on its sound.
@@ -167,14 +149,13 @@ pub fn settle_ends(
     starts: &[f64],
     ends: &mut [f64],
     letters: &[u32],
-    levels: &[f64],
-    floor: f64,
+    e: Envelope<'_>,
     duration: f64,
 )
-    requires { (length ends.old ≡ length starts.now) × ((length letters.now ≡ length starts.now) × (length levels.now ≤ 2 ^ 40)) }
+    requires { (length ends.old ≡ length starts.now) × ((length letters.now ≡ length starts.now) × (length e.levels.now ≤ 2 ^ 40)) }
     ensures { let before = edges starts.now ends.old in
         let after = edges starts.now ends.new in
-        after ≡ settle_ends (loud_row floor levels.now) duration letters.now before }
+        after ≡ settle_ends (loud_in e.entry) duration letters.now before }
 {
     for i in 0..starts.len() {
         let w = Times {
@@ -182,8 +163,7 @@ pub fn settle_ends(
             end: ends[i],
         };
         let settled = end_of(
-            levels,
-            floor,
+            e,
             duration,
             ends::one_word::next_start(starts, i),
             letters[i],

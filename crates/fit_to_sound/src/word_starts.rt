@@ -1,12 +1,13 @@
 // Starts in order, and moved to their sound; no word runs into the next (fit.rs, fit_to_sound, steps 1 to 3).
 ghost use Rattle.std.specs.Prelude.{◌≡◌, ◌+◌, ◌<◌, ◌≤◌, ◌^◌, pos, length};
 ghost use Rattle.base.specs.Words.{edges};
-ghost use Rattle.envelope.specs.Envelope.{loud_row};
 ghost use Rattle.fit_to_sound.specs.FitToSound.{step_start, in_order, put_in_order, is_loud_run, rise_frame, moved_to, rise_of, move_to_rise};
 ghost use Rattle.fit_to_sound.specs.FitToSound.{clipped, clip as clip_all};
 ghost use Rattle.fit_to_sound.specs.Parts.{stop_index, rise_from};
+ghost use Rattle.envelope.specs.Frames.{loud_in};
 
 use base::Times;
+use envelope::view::Envelope;
 
 // From a word's start to the next, in seconds, it is no less.
 const MIN_STEP: f64 = 0.02;
@@ -61,23 +62,21 @@ pub fn put_in_order(starts: &mut [f64], ends: &mut [f64], duration: f64)
 
 // Whether frames k to k + 2 are loud.
 #[tactic(auto, unfolding(crate::specs::FitToSound::is_loud_run))]
-fn is_loud_run(levels: &[f64], floor: f64, k: usize) -> bool
+fn is_loud_run(e: Envelope<'_>, k: usize) -> bool
     requires { k ≤ 2 ^ 40 }
-    ensures { result ≡ is_loud_run (loud_row floor levels.now) (pos k) }
+    ensures { result ≡ is_loud_run (loud_in e.entry) (pos k) }
 {
     // Each frame of a search comes here: all() over a range takes twice the instructions.
-    envelope::loud_at(levels, floor, k)
-        && envelope::loud_at(levels, floor, k + 1)
-        && envelope::loud_at(levels, floor, k + 2)
+    e.loud(k) && e.loud(k + 1) && e.loud(k + 2)
 }
 
 // The first frame from f to before stop at which a sound starts; where there is none, the end of the search.
-fn rise_frame(levels: &[f64], floor: f64, f: usize, stop: usize) -> usize
+fn rise_frame(e: Envelope<'_>, f: usize, stop: usize) -> usize
     requires { stop ≤ 2 ^ 40 }
-    ensures { pos result ≡ rise_frame (loud_row floor levels.now) (pos f) (pos stop) }
+    ensures { pos result ≡ rise_frame (loud_in e.entry) (pos f) (pos stop) }
 {
     for k in f..stop {
-        if is_loud_run(levels, floor, k) {
+        if is_loud_run(e, k) {
             return k;
         }
     }
@@ -104,14 +103,14 @@ fn moved_to(start: f64, w: Times) -> Times
 }
 
 // A word whose first frame f, of which three more follow, is quiet: it starts where its sound does, if that is soon enough.
-fn rise_from(levels: &[f64], floor: f64, f: usize, next: Option<f64>, w: Times) -> Times
-    requires { (f + 3 < length levels.now) × (length levels.now ≤ 2 ^ 40) }
-    ensures { result ≡ rise_from (loud_row floor levels.now) (pos f) next w }
+fn rise_from(e: Envelope<'_>, f: usize, next: Option<f64>, w: Times) -> Times
+    requires { (f + 3 < length e.levels.now) × (length e.levels.now ≤ 2 ^ 40) }
+    ensures { result ≡ rise_from (loud_in e.entry) (pos f) next w }
 {
-    let last = levels.len() - LOUD_RUN;
+    let last = e.levels.len() - LOUD_RUN;
     let ahead = last.min(frames::frame_index(w.start + SEARCH_AHEAD));
     let stop = ahead.min(stop_before(next, last));
-    let k = rise_frame(levels, floor, f, stop);
+    let k = rise_frame(e, f, stop);
     if k < stop {
         return moved_to(frames::index_seconds(k), w);
     }
@@ -119,31 +118,30 @@ fn rise_from(levels: &[f64], floor: f64, f: usize, next: Option<f64>, w: Times) 
 }
 
 // A word that starts in silence starts where its sound does (fit_to_sound, step 2).
-fn rise_of(levels: &[f64], floor: f64, next: Option<f64>, w: Times) -> Times
-    requires { length levels.now ≤ 2 ^ 40 }
-    ensures { result ≡ rise_of (loud_row floor levels.now) next w }
+fn rise_of(e: Envelope<'_>, next: Option<f64>, w: Times) -> Times
+    requires { length e.levels.now ≤ 2 ^ 40 }
+    ensures { result ≡ rise_of (loud_in e.entry) next w }
 {
     let f = frames::frame_index(w.start);
-    if levels.len() <= f + LOUD_RUN {
+    if e.levels.len() <= f + LOUD_RUN {
         return w;
     }
-    if envelope::loud_at(levels, floor, f) {
+    if e.loud(f) {
         return w;
     }
-    rise_from(levels, floor, f, next, w)
+    rise_from(e, f, next, w)
 }
 
 // Moves starts in silence to their sound.
-pub fn move_to_rise(starts: &mut [f64], ends: &mut [f64], levels: &[f64], floor: f64)
-    requires { (length ends.old ≡ length starts.old) × (length levels.now ≤ 2 ^ 40) }
+pub fn move_to_rise(starts: &mut [f64], ends: &mut [f64], e: Envelope<'_>)
+    requires { (length ends.old ≡ length starts.old) × (length e.levels.now ≤ 2 ^ 40) }
     ensures { let before = edges starts.old ends.old in
         let after = edges starts.new ends.new in
-        after ≡ move_to_rise (loud_row floor levels.now) before }
+        after ≡ move_to_rise (loud_in e.entry) before }
 {
     for i in 0..starts.len() {
         let w = rise_of(
-            levels,
-            floor,
+            e,
             ends::one_word::next_start(starts, i),
             Times {
                 start: starts[i],

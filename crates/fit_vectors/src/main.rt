@@ -20,6 +20,7 @@
 // A row is wrong where the call refuses it.
 #![tactic(auto)]
 
+use envelope::view::Envelope;
 use std::io;
 use std::num::f64_from_bits_with_nan as float;
 use vector_rows::numbers::{has_bits, levels};
@@ -109,7 +110,7 @@ fn is_edge(edge: Edge, times: Option<(f64, f64)>, bits: u64) -> bool {
 
 // The start and the end of the last run up to a time, each a NaN where there is no sound.
 fn run_times(levels: &[f64; 64], to: f64) -> Option<(f64, f64)> {
-    match last_run::last_run_at(levels, FLOOR, SAMPLES, 0.0, to).ok()? {
+    match last_run::last_run(Envelope::new(levels, FLOOR, SAMPLES), 0.0, to).ok()? {
         Some(run) => Some((run.start, run.end)),
         None => Some((f64::NAN, f64::NAN)),
     }
@@ -122,9 +123,7 @@ fn fitted_times(levels: &[f64; 64], start: f64) -> Option<(f64, f64)> {
     let letters = [4];
     let ones = [1];
     fit_to_sound::fit_to_sound(
-        levels,
-        FLOOR,
-        SAMPLES,
+        Envelope::new(levels, FLOOR, SAMPLES),
         &mut starts,
         &mut ends,
         &letters,
@@ -148,10 +147,8 @@ fn filed_times(levels: &[f64; 64], start: f64) -> Option<(f64, f64)> {
     let mut work_starts = [0.0];
     let mut work_ends = [0.0];
     let mut work_letters = [0];
-    fit_file::fit_file_at(
-        levels,
-        FLOOR,
-        SAMPLES,
+    fit_file::fit_file(
+        Envelope::new(levels, FLOOR, SAMPLES),
         &mut starts,
         &mut ends,
         &letters,

@@ -8,6 +8,7 @@ ghost use Rattle.run_stages.specs.Stages.{run_on};
 
 use super::Report;
 use base::Refusal;
+use envelope::view::Envelope;
 
 // The full run of `count` samples, from their levels; piece places and work places of one kind are equally many.
 pub fn run_heard(
@@ -63,9 +64,11 @@ pub fn run_heard(
     )?;
     let floor = envelope::floor::floor_of(levels);
     let out = run_stages::after_levels(
-        levels,
-        floor,
-        count,
+        Envelope {
+            levels,
+            floor,
+            count,
+        },
         starts,
         ends,
         letters,

@@ -8,6 +8,7 @@ ghost use Rattle.fit_file.specs.FitFile.{work_places};
 ghost use Rattle.full_run.specs.FullRun.{input, output, full_run, Unchanged};
 
 use base::Refusal;
+use envelope::view::Envelope;
 
 pub mod heard;
 pub mod rule;
@@ -87,9 +88,11 @@ pub fn full_run(
     let floor = hear(samples, levels);
     let n = samples.len() / HOP;
     let out = run_stages::after_levels(
-        &levels[0..n],
-        floor,
-        samples.len(),
+        Envelope {
+            levels: &levels[0..n],
+            floor,
+            count: samples.len(),
+        },
         starts,
         ends,
         letters,

@@ -4,13 +4,12 @@
 ghost use Rattle.std.specs.Prelude.{◌≡◌, true, false, ◌||◌, ◌<◌, ◌≤◌, ◌^◌, pos, length};
 ghost use Rattle.base.specs.Refusals.{first};
 ghost use Rattle.limits.specs.Limits.{bad_time};
-ghost use Rattle.envelope.specs.Envelope.{loud_row};
 ghost use Rattle.last_run.specs.LastRun.{back_step, ends_between, frames_of, frame_run, seconds_of, last_run, tests, last_run_call};
 ghost use Rattle.last_run.specs.Parts.{ends_of, turn_of, Low, last_frame};
+ghost use Rattle.envelope.specs.Frames.{loud_in};
 
 use base::{Refusal, Times};
-
-pub mod view;
+use envelope::view::Envelope;
 
 // So many quiet frames in a row are bridged; one more, and the run is over.
 const END_SILENCE: usize = 15;
@@ -78,9 +77,9 @@ pub fn step(s: Search, loud: bool, k: usize) -> Search
 }
 
 // The search back from before frame hi, down to frame lo.
-fn search_back(levels: &[f64], floor: f64, lo: usize, hi: usize) -> Search
+fn search_back(e: Envelope<'_>, lo: usize, hi: usize) -> Search
     requires { hi ≤ 2 ^ 40 }
-    ensures { (ends_of result ≡ ends_between (loud_row floor levels.now) (pos lo) (pos hi)) × Low result }
+    ensures { (ends_of result ≡ ends_between (loud_in e.entry) (pos lo) (pos hi)) × Low result }
 {
     let mut s = Search {
         first: 0,
@@ -88,7 +87,7 @@ fn search_back(levels: &[f64], floor: f64, lo: usize, hi: usize) -> Search
         over: false,
     };
     for k in (lo..hi).rev() {
-        s = step(s, envelope::loud_at(levels, floor, k), k);
+        s = step(s, e.loud(k), k);
         if s.over {
             return s;
         }
@@ -114,11 +113,11 @@ pub fn frames_of(s: Search) -> Option<FrameRun>
 }
 
 // The last run of the frames from lo to before hi.
-pub fn frame_run(levels: &[f64], floor: f64, lo: usize, hi: usize) -> Option<FrameRun>
+pub fn frame_run(e: Envelope<'_>, lo: usize, hi: usize) -> Option<FrameRun>
     requires { hi ≤ 2 ^ 40 }
-    ensures { (result ≡ frame_run (loud_row floor levels.now) (pos lo) (pos hi)) × (last_frame result < 2 ^ 40) }
+    ensures { (result ≡ frame_run (loud_in e.entry) (pos lo) (pos hi)) × (last_frame result < 2 ^ 40) }
 {
-    frames_of(search_back(levels, floor, lo, hi))
+    frames_of(search_back(e, lo, hi))
 }
 
 // A run's start and end in seconds, if there is one.
@@ -134,13 +133,13 @@ pub fn seconds_of(r: Option<FrameRun>) -> Option<Times>
 }
 
 // The last run between two times, if there is sound (fit.rs, last_run); nothing is checked.
-pub fn run_between(levels: &[f64], floor: f64, from: f64, to: f64) -> Option<Times>
-    requires { length levels.now ≤ 2 ^ 40 }
-    ensures { result ≡ last_run (loud_row floor levels.now) from to }
+pub fn run_between(e: Envelope<'_>, from: f64, to: f64) -> Option<Times>
+    requires { length e.levels.now ≤ 2 ^ 40 }
+    ensures { result ≡ last_run (loud_in e.entry) from to }
 {
     let lo = frames::frame_index(from);
-    let hi = levels.len().min(frames::frame_index(to));
-    seconds_of(frame_run(levels, floor, lo, hi))
+    let hi = e.levels.len().min(frames::frame_index(to));
+    seconds_of(frame_run(e, lo, hi))
 }
 
 // Whether one of two times is outside its range.
@@ -168,15 +167,9 @@ fn judge(levels: usize, count: usize, from: f64, to: f64) -> Result<(), Refusal>
 }
 
 // The last run between two times, of levels and times within the limits (fit.rs, last_run).
-pub fn last_run_at(
-    levels: &[f64],
-    floor: f64,
-    count: usize,
-    from: f64,
-    to: f64,
-) -> Result<Option<Times>, Refusal>
-    ensures { result ≡ last_run_call levels.now floor count from to }
+pub fn last_run(e: Envelope<'_>, from: f64, to: f64) -> Result<Option<Times>, Refusal>
+    ensures { result ≡ last_run_call e.entry.levels.now e.entry.floor e.entry.count from to }
 {
-    judge(levels.len(), count, from, to)?;
-    Ok(run_between(levels, floor, from, to))
+    judge(e.levels.len(), e.count, from, to)?;
+    Ok(run_between(e, from, to))
 }

@@ -3,14 +3,13 @@
 
 ghost use Rattle.std.specs.Prelude.{◌≡◌, max, ◌-◌, ◌≤◌, pos, length};
 ghost use Rattle.base.specs.Words.{words, edges};
-ghost use Rattle.envelope.specs.Envelope.{loud_row};
 ghost use Rattle.word_calls.specs.Calls.{output};
 ghost use Rattle.onsets.specs.Onsets.{onset_frame, onset_of, prev_end, snap_onsets, onsets_call};
 ghost use Rattle.onsets.specs.Parts.{onset_seconds, goes_on};
+ghost use Rattle.envelope.specs.Frames.{loud_in};
 
 use base::{Refusal, Times};
-
-pub mod view;
+use envelope::view::Envelope;
 
 // From so many seconds on, what lies between two words is a pause.
 const PAUSE: f64 = 0.15;
@@ -27,13 +26,13 @@ fn frames_back(lo: usize, f: usize, back: usize) -> usize
 }
 
 // The earliest loud frame before f that is reached, down to lo, without 8 quiet ones in a row; f where there is none.
-fn onset_back(levels: &[f64], floor: f64, lo: usize, f: usize) -> usize
-    ensures { pos result ≡ onset_frame (loud_row floor levels.now) (pos f) (pos lo) }
+fn onset_back(e: Envelope<'_>, lo: usize, f: usize) -> usize
+    ensures { pos result ≡ onset_frame (loud_in e.entry) (pos f) (pos lo) }
 {
     let mut onset = f;
     while lo < onset {
         let from = frames_back(lo, onset, EDGE_QUIET);
-        let k = envelope::first_frame(levels, floor, true, from, onset);
+        let k = e.first_frame(true, from, onset);
         if onset <= k {
             return onset;
         }
@@ -43,8 +42,8 @@ fn onset_back(levels: &[f64], floor: f64, lo: usize, f: usize) -> usize
 }
 
 // The time at which the sound of a start rises; a start before frame 0 has its own frame's time.
-fn onset_seconds(levels: &[f64], floor: f64, prev_end: f64, start: f64) -> f64
-    ensures { result ≡ onset_seconds (loud_row floor levels.now) prev_end start }
+fn onset_seconds(e: Envelope<'_>, prev_end: f64, start: f64) -> f64
+    ensures { result ≡ onset_seconds (loud_in e.entry) prev_end start }
 {
     let z = frames::frame_at(start);
     if frames::before_zero(z) {
@@ -52,7 +51,7 @@ fn onset_seconds(levels: &[f64], floor: f64, prev_end: f64, start: f64) -> f64
     }
     let f = frames::to_index(z);
     let lo = frames_back(frames::to_index(frames::frame_ceil(prev_end)), f, MAX_BACK);
-    frames::index_seconds(onset_back(levels, floor, lo, f))
+    frames::index_seconds(onset_back(e, lo, f))
 }
 
 // A word that follows no pause.
@@ -65,13 +64,13 @@ fn goes_on(i: usize, prev_end: f64, start: f64) -> bool
 
 // Word i's times, its start where its sound rises.
 #[tactic(auto, unfolding(crate::specs::Onsets::onset_of, crate::specs::Parts::goes_on, crate::specs::Parts::onset_seconds))]
-fn snap_onset(levels: &[f64], floor: f64, i: usize, prev_end: f64, w: Times) -> Times
-    ensures { result ≡ onset_of (loud_row floor levels.now) i prev_end w }
+fn snap_onset(e: Envelope<'_>, i: usize, prev_end: f64, w: Times) -> Times
+    ensures { result ≡ onset_of (loud_in e.entry) i prev_end w }
 {
     if goes_on(i, prev_end, w.start) {
         return w;
     }
-    let start = onset_seconds(levels, floor, prev_end, w.start);
+    let start = onset_seconds(e, prev_end, w.start);
     Times {
         start: js::js_min(w.start, start),
         end: w.end,
@@ -88,27 +87,25 @@ fn prev_end_at(ends: &[f64], i: usize) -> f64
 }
 
 // Moves the start of each word after a pause back to where its sound rises (onsets.rs, snap_onsets); nothing is checked.
-pub fn move_onsets(starts: &mut [f64], ends: &[f64], levels: &[f64], floor: f64)
+pub fn move_onsets(starts: &mut [f64], ends: &[f64], e: Envelope<'_>)
     requires { length ends.now ≡ length starts.old }
     ensures { let before = edges starts.old ends.now in
         let after = edges starts.new ends.now in
-        after ≡ snap_onsets (loud_row floor levels.now) before }
+        after ≡ snap_onsets (loud_in e.entry) before }
 {
     for i in 0..starts.len() {
         let w = Times {
             start: starts[i],
             end: ends[i],
         };
-        let t = snap_onset(levels, floor, i, prev_end_at(ends, i), w);
+        let t = snap_onset(e, i, prev_end_at(ends, i), w);
         starts[i] = t.start;
     }
 }
 
 // Moves starts back to where the sound rises, of words and levels within the limits (onsets.rs, snap_onsets).
 pub fn snap_onsets(
-    levels: &[f64],
-    floor: f64,
-    count: usize,
+    e: Envelope<'_>,
     starts: &mut [f64],
     ends: &[f64],
     letters: &[u32],
@@ -117,9 +114,9 @@ pub fn snap_onsets(
 ) -> Result<(), Refusal>
     ensures { let before = words starts.old ends.now letters.now units.now keys.now in
         let after = words starts.new ends.now letters.now units.now keys.now in
-        output result after ≡ onsets_call before levels.now floor count }
+        output result after ≡ onsets_call before e.entry.levels.now e.entry.floor e.entry.count }
 {
-    word_calls::sound_rule(starts, ends, letters, units, keys, levels.len(), count)?;
-    move_onsets(starts, ends, levels, floor);
+    word_calls::sound_rule(starts, ends, letters, units, keys, e.levels.len(), e.count)?;
+    move_onsets(starts, ends, e);
     Ok(())
 }

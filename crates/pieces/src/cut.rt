@@ -2,8 +2,11 @@
 ghost use Rattle.std.specs.Prelude.{◌≡◌, ◌+◌, ◌≤◌, ◌<◌, length};
 ghost use Rattle.std.specs.Float.Ieee.{le};
 ghost use Rattle.envelope.specs.Envelope.{quiet_row};
+ghost use Rattle.envelope.specs.Frames.{quiet_in};
 ghost use Rattle.pieces.specs.Pieces.{cut};
 ghost use Rattle.pieces.specs.Parts.{middle, quiet_start, quiet_end, Stands};
+
+use envelope::view::Envelope;
 
 // The most frames in one piece: 20 s.
 const MAX_FRAMES: usize = 2000;
@@ -95,11 +98,11 @@ fn find_middle(part: &[f64], floor: f64) -> usize
 }
 
 // Where a piece that starts at `from` is cut.
-pub fn find_cut(levels: &[f64], floor: f64, from: usize) -> usize
-    requires { from + 2000 ≤ length levels.now }
-    ensures { (result ≡ cut (quiet_row floor levels.now) from) × ((from + 1203 ≤ result) × (result ≤ from + 2000)) }
+pub fn find_cut(e: Envelope<'_>, from: usize) -> usize
+    requires { from + 2000 ≤ length e.levels.now }
+    ensures { (result ≡ cut (quiet_in e.entry) from) × ((from + 1203 ≤ result) × (result ≤ from + 2000)) }
 {
     let a = from + MAX_FRAMES - SEARCH_FRAMES;
-    let e = from + MAX_FRAMES;
-    a + find_middle(&levels[a..e], floor)
+    let end = from + MAX_FRAMES;
+    a + find_middle(&e.levels[a..end], e.floor)
 }

@@ -4,14 +4,14 @@
 ghost use Rattle.std.specs.Prelude.{◌≡◌, ◌||◌, ◌+◌, ◌<◌, length};
 ghost use Rattle.base.specs.Refusals.{first};
 ghost use Rattle.limits.specs.Limits.{few_places};
-ghost use Rattle.envelope.specs.Envelope.{quiet_row};
 ghost use Rattle.pieces.specs.Pieces.{cut, pieces, piece_count, need, tests, output, accepted, pieces_call, Ready};
 ghost use Rattle.pieces.specs.Parts.{starts_over, ends_over};
+ghost use Rattle.envelope.specs.Frames.{quiet_in};
 
 use base::Refusal;
+use envelope::view::Envelope;
 
 pub mod cut;
-pub mod view;
 
 // The most frames in one piece: 20 s.
 const MAX_FRAMES: usize = 2000;
@@ -19,43 +19,37 @@ const MAX_FRAMES: usize = 2000;
 const HOP: usize = 160;
 
 // The number of pieces.
-pub fn count_pieces(levels: &[f64], floor: f64) -> usize
-    ensures { result ≡ piece_count (quiet_row floor levels.now) }
+pub fn count_pieces(e: Envelope<'_>) -> usize
+    ensures { result ≡ piece_count (quiet_in e.entry) }
 {
     let mut from = 0;
     let mut n = 0;
-    while from < levels.len() {
-        if levels.len() - from <= MAX_FRAMES {
+    while from < e.levels.len() {
+        if e.levels.len() - from <= MAX_FRAMES {
             return n + 1;
         }
-        from = cut::find_cut(levels, floor, from);
+        from = cut::find_cut(e, from);
         n += 1;
     }
     n
 }
 
 // Writes the first sample of each piece and its end.
-pub fn write_pieces(
-    levels: &[f64],
-    floor: f64,
-    count: usize,
-    starts: &mut [usize],
-    ends: &mut [usize],
-)
-    requires { Ready (length levels.now) count (length starts.old) (length ends.old) }
-    ensures { let quiet_frames = quiet_row floor levels.now in
-        (starts.new ≡ starts_over (pieces quiet_frames count) starts.old)
-        × (ends.new ≡ ends_over (pieces quiet_frames count) ends.old) }
+pub fn write_pieces(e: Envelope<'_>, starts: &mut [usize], ends: &mut [usize])
+    requires { Ready (length e.levels.now) e.count (length starts.old) (length ends.old) }
+    ensures { let quiet_frames = quiet_in e.entry in
+        (starts.new ≡ starts_over (pieces quiet_frames e.entry.count) starts.old)
+        × (ends.new ≡ ends_over (pieces quiet_frames e.entry.count) ends.old) }
 {
     let mut from = 0;
     let mut n = 0;
-    while from < levels.len() {
-        if levels.len() - from <= MAX_FRAMES {
+    while from < e.levels.len() {
+        if e.levels.len() - from <= MAX_FRAMES {
             starts[n] = from * HOP;
-            ends[n] = count;
+            ends[n] = e.count;
             return;
         }
-        let cut = cut::find_cut(levels, floor, from);
+        let cut = cut::find_cut(e, from);
         starts[n] = from * HOP;
         ends[n] = cut * HOP;
         from = cut;
@@ -80,56 +74,38 @@ fn short_of_places(frames: usize, starts: usize, ends: usize) -> bool
 }
 
 // The first refusal that applies, of 4, 7, 6; a cut is always beyond its piece's start, so that 8 never does.
-fn judge(
-    levels: &[f64],
-    floor: f64,
-    count: usize,
-    starts: &[usize],
-    ends: &[usize],
-) -> Result<(), Refusal>
-    ensures { result ≡ first (tests levels.now floor count (length starts.now) (length ends.now)) }
+fn judge(e: Envelope<'_>, starts: &[usize], ends: &[usize]) -> Result<(), Refusal>
+    ensures { result ≡ first (tests e.entry.levels.now e.entry.floor e.entry.count (length starts.now) (length ends.now)) }
 {
-    if limits::sizes::many_samples(count) {
+    if limits::sizes::many_samples(e.count) {
         return Err(Refusal::Counts);
     }
-    if limits::sizes::other_levels(levels.len(), count) {
+    if limits::sizes::other_levels(e.levels.len(), e.count) {
         return Err(Refusal::Levels);
     }
-    if short_of_places(levels.len(), starts.len(), ends.len()) {
+    if short_of_places(e.levels.len(), starts.len(), ends.len()) {
         return Err(Refusal::Places);
     }
     Ok(())
 }
 
 // The pieces in their places, and their number.
-fn accept(
-    levels: &[f64],
-    floor: f64,
-    count: usize,
-    starts: &mut [usize],
-    ends: &mut [usize],
-) -> usize
-    requires { Ready (length levels.now) count (length starts.old) (length ends.old) }
-    ensures { let quiet_frames = quiet_row floor levels.now in
+fn accept(e: Envelope<'_>, starts: &mut [usize], ends: &mut [usize]) -> usize
+    requires { Ready (length e.levels.now) e.count (length starts.old) (length ends.old) }
+    ensures { let quiet_frames = quiet_in e.entry in
         output (Ok result) starts.new ends.new
-        ≡ accepted (pieces quiet_frames count) starts.old ends.old }
+        ≡ accepted (pieces quiet_frames e.entry.count) starts.old ends.old }
 {
-    let n = count_pieces(levels, floor);
-    write_pieces(levels, floor, count, starts, ends);
+    let n = count_pieces(e);
+    write_pieces(e, starts, ends);
     n
 }
 
 // The pieces of a recording of `count` samples, from its levels and their floor (pieces.rs, pieces).
-pub fn pieces_at(
-    levels: &[f64],
-    floor: f64,
-    count: usize,
-    starts: &mut [usize],
-    ends: &mut [usize],
-) -> Result<usize, Refusal>
+pub fn pieces(e: Envelope<'_>, starts: &mut [usize], ends: &mut [usize]) -> Result<usize, Refusal>
     ensures { output result starts.new ends.new
-        ≡ pieces_call levels.now floor count starts.old ends.old }
+        ≡ pieces_call e.entry.levels.now e.entry.floor e.entry.count starts.old ends.old }
 {
-    judge(levels, floor, count, starts, ends)?;
-    Ok(accept(levels, floor, count, starts, ends))
+    judge(e, starts, ends)?;
+    Ok(accept(e, starts, ends))
 }

@@ -3,12 +3,13 @@
 
 ghost use Rattle.std.specs.Prelude.{◌≡◌, length};
 ghost use Rattle.base.specs.Words.{words, spans};
-ghost use Rattle.envelope.specs.Envelope.{loud_row, quiet_row};
 ghost use Rattle.pieces.specs.Pieces.{Ready as PiecesReady};
 ghost use Rattle.loops.specs.Loops.{collapse_loops};
 ghost use Rattle.run_stages.specs.Stages.{snapped, settled, run_on};
 ghost use Rattle.run_stages.specs.Parts.{Ready, FewLetters, Settling, Running};
+ghost use Rattle.envelope.specs.Frames.{loud_in, quiet_in};
 
+use envelope::view::Envelope;
 use loops::Left;
 
 pub mod on_words;
@@ -33,8 +34,7 @@ fn run_on_words(
     span_starts: &[f64],
     span_ends: &[f64],
     counts: &[u32],
-    levels: &[f64],
-    floor: f64,
+    e: Envelope<'_>,
     duration: f64,
     work_starts: &mut [f64],
     work_ends: &mut [f64],
@@ -42,13 +42,13 @@ fn run_on_words(
 ) -> Left
     requires { Ready (words starts.old ends.old letters.old units.old keys.old)
         (spans span_starts.now span_ends.now counts.now) (length phrases.old)
-        (length levels.now) (length work_starts.old) (length work_ends.old)
+        (length e.levels.now) (length work_starts.old) (length work_ends.old)
         (length work_letters.old)
         × FewLetters letters.old }
     ensures { let before = words starts.old ends.old letters.old units.old keys.old in
         let after = words starts.new ends.new letters.new units.new keys.new in
         let all_spans = spans span_starts.now span_ends.now counts.now in
-        let loud_frames = loud_row floor levels.now in
+        let loud_frames = loud_in e.entry in
         Settling
         (settled loud_frames duration all_spans phrases.old (snapped loud_frames duration (collapse_loops before).words))
         (length keys.old) result.count after phrases.new
@@ -66,8 +66,7 @@ fn run_on_words(
         span_starts,
         span_ends,
         counts,
-        levels,
-        floor,
+        e,
         duration,
         work_starts,
         work_ends,
@@ -81,9 +80,7 @@ fn run_on_words(
 
 // The pieces of a recording, and its words through all stages, from its levels, their floor and the sample count.
 pub fn after_levels(
-    levels: &[f64],
-    floor: f64,
-    count: usize,
+    e: Envelope<'_>,
     starts: &mut [f64],
     ends: &mut [f64],
     letters: &mut [u32],
@@ -101,21 +98,21 @@ pub fn after_levels(
 ) -> Outcome
     requires { Ready (words starts.old ends.old letters.old units.old keys.old)
         (spans span_starts.now span_ends.now counts.now) (length phrases.old)
-        (length levels.now) (length work_starts.old) (length work_ends.old)
+        (length e.levels.now) (length work_starts.old) (length work_ends.old)
         (length work_letters.old)
         × (FewLetters letters.old
-        × PiecesReady (length levels.now) count (length piece_starts.old) (length piece_ends.old)) }
+        × PiecesReady (length e.levels.now) e.count (length piece_starts.old) (length piece_ends.old)) }
     ensures { let before = words starts.old ends.old letters.old units.old keys.old in
         let after = words starts.new ends.new letters.new units.new keys.new in
         let all_spans = spans span_starts.now span_ends.now counts.now in
-        let loud_frames = loud_row floor levels.now in
-        let quiet_frames = quiet_row floor levels.now in
-        Running (run_on loud_frames quiet_frames count all_spans phrases.old before)
+        let loud_frames = loud_in e.entry in
+        let quiet_frames = quiet_in e.entry in
+        Running (run_on loud_frames quiet_frames e.entry.count all_spans phrases.old before)
         (length keys.old) result after phrases.new piece_starts.old
         piece_ends.old piece_starts.new piece_ends.new }
 {
-    let pieces = pieces::count_pieces(levels, floor);
-    pieces::write_pieces(levels, floor, count, piece_starts, piece_ends);
+    let pieces = pieces::count_pieces(e);
+    pieces::write_pieces(e, piece_starts, piece_ends);
     let left = run_on_words(
         starts,
         ends,
@@ -126,9 +123,8 @@ pub fn after_levels(
         span_starts,
         span_ends,
         counts,
-        levels,
-        floor,
-        fit_file::duration_of(count),
+        e,
+        fit_file::duration_of(e.count),
         work_starts,
         work_ends,
         work_letters,

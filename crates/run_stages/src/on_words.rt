@@ -1,9 +1,11 @@
 // The stages of a full run on the words that loops left (document 01, "Full run"); nothing is checked.
 ghost use Rattle.std.specs.Prelude.{length};
 ghost use Rattle.base.specs.Words.{words, spans};
-ghost use Rattle.envelope.specs.Envelope.{loud_row};
 ghost use Rattle.run_stages.specs.Stages.{snapped, by_phrase, settled};
 ghost use Rattle.run_stages.specs.Parts.{Ready, FewLetters, Settling};
+ghost use Rattle.envelope.specs.Frames.{loud_in};
+
+use envelope::view::Envelope;
 
 // Placing, then the fit by phrase; gives back how many words are left.
 fn place_and_fit(
@@ -16,8 +18,7 @@ fn place_and_fit(
     span_starts: &[f64],
     span_ends: &[f64],
     counts: &[u32],
-    levels: &[f64],
-    floor: f64,
+    e: Envelope<'_>,
     duration: f64,
     work_starts: &mut [f64],
     work_ends: &mut [f64],
@@ -25,12 +26,12 @@ fn place_and_fit(
 ) -> usize
     requires { Ready (words starts.old ends.old letters.old units.old keys.old)
         (spans span_starts.now span_ends.now counts.now) (length phrases.old)
-        (length levels.now) (length work_starts.old) (length work_ends.old)
+        (length e.levels.now) (length work_starts.old) (length work_ends.old)
         (length work_letters.old) }
     ensures { let before = words starts.old ends.old letters.old units.old keys.old in
         let after = words starts.new ends.new letters.new units.new keys.new in
         let all_spans = spans span_starts.now span_ends.now counts.now in
-        let loud_frames = loud_row floor levels.now in
+        let loud_frames = loud_in e.entry in
         Settling (by_phrase loud_frames duration all_spans phrases.old before) (length keys.old) result after phrases.new }
 {
     let n = phrase_align::place_words(
@@ -51,8 +52,7 @@ fn place_and_fit(
         &phrases[0..n],
         span_starts,
         span_ends,
-        levels,
-        floor,
+        e,
         duration,
         work_starts,
         work_ends,
@@ -72,8 +72,7 @@ pub fn time_words(
     span_starts: &[f64],
     span_ends: &[f64],
     counts: &[u32],
-    levels: &[f64],
-    floor: f64,
+    e: Envelope<'_>,
     duration: f64,
     work_starts: &mut [f64],
     work_ends: &mut [f64],
@@ -81,20 +80,20 @@ pub fn time_words(
 ) -> usize
     requires { Ready (words starts.old ends.old letters.old units.old keys.old)
         (spans span_starts.now span_ends.now counts.now) (length phrases.old)
-        (length levels.now) (length work_starts.old) (length work_ends.old)
+        (length e.levels.now) (length work_starts.old) (length work_ends.old)
         (length work_letters.old)
         × FewLetters letters.old }
     ensures { let before = words starts.old ends.old letters.old units.old keys.old in
         let after = words starts.new ends.new letters.new units.new keys.new in
         let all_spans = spans span_starts.now span_ends.now counts.now in
-        let loud_frames = loud_row floor levels.now in
+        let loud_frames = loud_in e.entry in
         Settling
         (settled loud_frames duration all_spans phrases.old (snapped loud_frames duration before))
         (length keys.old) result after phrases.new }
 {
-    super::snap::snap(starts, ends, letters, units, levels, floor, duration);
+    super::snap::snap(starts, ends, letters, units, e, duration);
     if span_starts.len() == 0 {
-        fit_to_sound::fit_words(starts, ends, letters, levels, floor, duration);
+        fit_to_sound::fit_words(starts, ends, letters, e, duration);
         return keys.len();
     }
     place_and_fit(
@@ -107,8 +106,7 @@ pub fn time_words(
         span_starts,
         span_ends,
         counts,
-        levels,
-        floor,
+        e,
         duration,
         work_starts,
         work_ends,

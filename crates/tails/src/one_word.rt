@@ -3,11 +3,12 @@ ghost use Rattle.std.specs.Prelude.{◌≡◌, ◌<◌, ◌≤◌, ◌^◌, pos,
 ghost use Rattle.std.specs.Float.Ieee.{le};
 ghost use Rattle.base.specs.Floats.{◌⊗◌, num};
 ghost use Rattle.frames.specs.Frames.{frame_seconds};
-ghost use Rattle.envelope.specs.Envelope.{loud_row};
 ghost use Rattle.tails.specs.Tails.{min_letter, hand_back};
 ghost use Rattle.tails.specs.Parts.{across as across_at, lands as lands_at, below, three};
+ghost use Rattle.envelope.specs.Frames.{loud_in};
 
 use base::Times;
+use envelope::view::Envelope;
 
 // A start so many seconds or more after the word before ends lies on no tail.
 const LOOSE: f64 = 0.05;
@@ -29,19 +30,19 @@ pub struct Neighbours {
 
 // The sound runs across the start of a frame.
 #[tactic(auto, unfolding(crate::specs::Parts::across))]
-fn across(levels: &[f64], floor: f64, f: usize) -> bool
-    ensures { result ≡ across_at (loud_row floor levels.now) f }
+fn across(e: Envelope<'_>, f: usize) -> bool
+    ensures { result ≡ across_at (loud_in e.entry) f }
 {
-    f > 0 && envelope::loud_at(levels, floor, f - 1) && envelope::loud_at(levels, floor, f)
+    f > 0 && e.loud(f - 1) && e.loud(f)
 }
 
 // A word that starts on the tail of the word before it, in frame f.
 #[tactic(auto, unfolding(crate::specs::Parts::lands))]
-fn lands(levels: &[f64], floor: f64, prev_end: f64, start: f64, f: usize) -> bool
-    ensures { result ≡ lands_at (loud_row floor levels.now) prev_end start f }
+fn lands(e: Envelope<'_>, prev_end: f64, start: f64, f: usize) -> bool
+    ensures { result ≡ lands_at (loud_in e.entry) prev_end start f }
 {
     let is_loose = start - prev_end >= LOOSE;
-    !is_loose && across(levels, floor, f)
+    !is_loose && across(e, f)
 }
 
 // A sound that is as long as the letters need.
@@ -53,44 +54,44 @@ fn is_long(n: usize, letters: u32) -> bool
 
 // A loud frame before hi.
 #[tactic(auto, unfolding(crate::specs::Parts::below))]
-fn loud_below(levels: &[f64], floor: f64, hi: usize, k: usize) -> bool
-    ensures { result ≡ below (loud_row floor levels.now) hi k }
+fn loud_below(e: Envelope<'_>, hi: usize, k: usize) -> bool
+    ensures { result ≡ below (loud_in e.entry) hi k }
 {
-    k < hi && envelope::loud_at(levels, floor, k)
+    k < hi && e.loud(k)
 }
 
 // Three loud frames from k on.
 #[tactic(auto, unfolding(crate::specs::Parts::three))]
-fn own_sound(levels: &[f64], floor: f64, hi: usize, k: usize) -> bool
+fn own_sound(e: Envelope<'_>, hi: usize, k: usize) -> bool
     requires { k < 2 ^ 62 }
-    ensures { result ≡ three (loud_row floor levels.now) hi k }
+    ensures { result ≡ three (loud_in e.entry) hi k }
 {
-    (k..k + MIN_RUN).all(|j| loud_below(levels, floor, hi, j))
+    (k..k + MIN_RUN).all(|j| loud_below(e, hi, j))
 }
 
 // A word hands its tail of sound back to the word before it, if it starts on one.
-pub fn hand_back(levels: &[f64], floor: f64, p: Neighbours, letters: u32) -> Neighbours
-    requires { (length levels.now ≤ 2 ^ 40) × (letters ≤ 1000) }
-    ensures { result ≡ hand_back (loud_row floor levels.now) p letters }
+pub fn hand_back(e: Envelope<'_>, p: Neighbours, letters: u32) -> Neighbours
+    requires { (length e.levels.now ≤ 2 ^ 40) × (letters ≤ 1000) }
+    ensures { result ≡ hand_back (loud_in e.entry) p letters }
 {
     let f = frames::frame_index(p.w.start);
-    if !lands(levels, floor, p.prev.end, p.w.start, f) {
+    if !lands(e, p.prev.end, p.w.start, f) {
         return p;
     }
-    let hi = levels.len().min(frames::frame_index(p.w.end));
+    let hi = e.levels.len().min(frames::frame_index(p.w.end));
     let far = hi.min(f + MAX_TAIL);
-    let t = envelope::first_frame(levels, floor, false, f, far);
+    let t = e.first_frame(false, f, far);
     if MAX_TAIL <= t - f {
         return p;
     }
     if is_long(t - f, letters) {
         return p;
     }
-    let k = envelope::first_frame(levels, floor, true, t, hi);
+    let k = e.first_frame(true, t, hi);
     if k - t < EDGE_QUIET {
         return p;
     }
-    if !own_sound(levels, floor, hi, k) {
+    if !own_sound(e, hi, k) {
         return p;
     }
     let prev = Times {

@@ -15,6 +15,7 @@
 //       that the output shows that a wrong answer is seen
 #![tactic(auto)]
 
+use envelope::view::Envelope;
 use std::io;
 use std::num::f64_from_bits_with_nan as float;
 use vector_rows::numbers::has_bits;
@@ -135,7 +136,7 @@ fn cut(frames: usize, first_quiet: usize, quiet: usize) -> Option<usize> {
     let mut starts = [0; 2];
     let mut ends = [0; 2];
     let count = frames * HOP;
-    let n = pieces::pieces_at(levels, FLOOR, count, &mut starts, &mut ends).ok()?;
+    let n = pieces::pieces(Envelope::new(levels, FLOOR, count), &mut starts, &mut ends).ok()?;
     first_end(n, ends, count)
 }
 

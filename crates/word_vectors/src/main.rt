@@ -35,6 +35,7 @@
 ghost use Rattle.std.specs.Prelude.{◌≤◌};
 ghost use Rattle.word_vectors.specs.declared.TheConstants.{TIMED};
 
+use envelope::view::Envelope;
 use loops::Left;
 use std::num::f64_from_bits_with_nan as float;
 use std::{array, io};
@@ -175,9 +176,7 @@ fn onset(levels: &[f64; 64], start: f64) -> Option<f64> {
     let ends = [DURATION];
     let ones = [1];
     let answer = onsets::snap_onsets(
-        levels,
-        FLOOR,
-        SAMPLES,
+        Envelope::new(levels, FLOOR, SAMPLES),
         &mut starts,
         &ends,
         &ones,
@@ -194,9 +193,7 @@ fn end(levels: &[f64; 64], start: f64) -> Option<f64> {
     let mut ends = [DURATION];
     let ones = [1];
     ends::snap_ends(
-        levels,
-        FLOOR,
-        SAMPLES,
+        Envelope::new(levels, FLOOR, SAMPLES),
         &mut starts,
         &mut ends,
         &ones,
@@ -215,9 +212,7 @@ fn handed_back(levels: &[f64; 64], start: f64) -> Option<f64> {
     let letters = [4; 2];
     let ones = [1; 2];
     tails::hand_back_tails(
-        levels,
-        FLOOR,
-        SAMPLES,
+        Envelope::new(levels, FLOOR, SAMPLES),
         &mut starts,
         &mut ends,
         &letters,

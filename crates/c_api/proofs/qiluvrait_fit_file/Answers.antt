@@ -4,9 +4,9 @@ use Rattle.c_api.proofs.qiluvrait_fit_file.Goals as goal
 
 pub returns : goal.returns
 returns c = (
-  reply-made _ c.moved.ensures c.fit_file_at-answer.ensures.0,
+  reply-made _ c.moved.ensures c.fit_file-answer.ensures.0,
   (
-    kept-made _ c.moved.ensures c.fit_file_at-answer.ensures.1.0,
-    (kept-made _ c.moved.ensures c.fit_file_at-answer.ensures.1.1.0, kept-made _ c.moved.ensures c.fit_file_at-answer.ensures.1.1.1),
+    kept-made _ c.moved.ensures c.fit_file-answer.ensures.1.0,
+    (kept-made _ c.moved.ensures c.fit_file-answer.ensures.1.1.0, kept-made _ c.moved.ensures c.fit_file-answer.ensures.1.1.1),
   ),
 )

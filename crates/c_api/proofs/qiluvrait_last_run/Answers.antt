@@ -4,4 +4,4 @@ use Rattle.c_api.specs.Answers.{searched_of}
 use Rattle.c_api.proofs.qiluvrait_last_run.Goals as goal
 
 pub returns : goal.returns
-returns c = c.from.ensures ∙ ap searched_of c.last_run_at.ensures
+returns c = c.from.ensures ∙ ap searched_of c.last_run.ensures

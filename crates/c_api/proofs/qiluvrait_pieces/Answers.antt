@@ -6,5 +6,5 @@ use Rattle.c_api.proofs.qiluvrait_pieces.Goals as goal
 
 pub returns : goal.returns
 returns c =
-    let e = c.pieces_at.ensures in
+    let e = c.pieces.ensures in
     (c.from.ensures ∙ ap (λ (o : Output). cut_of o.answer) e, (ap (λ (o : Output). o.starts) e, ap (λ (o : Output). o.ends) e))

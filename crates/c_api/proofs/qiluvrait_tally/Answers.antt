@@ -3,4 +3,4 @@ use Rattle.c_api.proofs.Replies.{tallied-made}
 use Rattle.c_api.proofs.qiluvrait_tally.Goals as goal
 
 pub returns : goal.returns
-returns c = tallied-made _ c.moved.ensures c.tally_at-answer.ensures
+returns c = tallied-made _ c.moved.ensures c.tally-answer.ensures

@@ -9,4 +9,4 @@ use Rattle.last_run.proofs.search_back.Given as goal
 
 abbrev pub invariant-loop-k : goal.invariant-loop-k
 invariant-loop-k l =
-    (l.s.over ≡ false) × (Low l.s × (ends_between (loud_row l.floor l.levels) (pos l.lo) (pos l.hi) ≡ rest (loud_row l.floor l.levels) l.lo l.k l.s))
+    (l.s.over ≡ false) × (Low l.s × (ends_between (loud_row l.e.floor l.e.levels.now) (pos l.lo) (pos l.hi) ≡ rest (loud_row l.e.floor l.e.levels.now) l.lo l.k l.s))

@@ -10,4 +10,4 @@ use Rattle.onsets.proofs.move_onsets.Given as goal
 abbrev pub invariant-loop-i : goal.invariant-loop-i
 invariant-loop-i l =
     (length l.starts ≡ length l.initial.starts)
-    × (snap_onsets (loud_row l.floor l.levels) (edges l.initial.starts l.ends) ≡ each (onset_turn (loud_row l.floor l.levels)) (length l.initial.starts - l.i) l.i (edges l.starts l.ends))
+    × (snap_onsets (loud_row l.e.floor l.e.levels.now) (edges l.initial.starts l.ends) ≡ each (onset_turn (loud_row l.e.floor l.e.levels.now)) (length l.initial.starts - l.i) l.i (edges l.starts l.ends))

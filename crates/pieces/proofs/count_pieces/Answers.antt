@@ -6,8 +6,8 @@ use Rattle.pieces.proofs.count_pieces.Goals as goal
 pub loop-from-init : goal.loop-from-init
 loop-from-init c = (quiet-length _ _, (omega arith, (omega arith, counting-starts _)))
 
-pub returns-then-levels-from-le-MAX_FRAMES : goal.returns-then-levels-from-le-MAX_FRAMES
-returns-then-levels-from-le-MAX_FRAMES c = counting-last _ _ _ c.loop-from.invariant.1.1.1 (omega arith) (omega arith)
+pub returns-then-e-from-le-MAX_FRAMES : goal.returns-then-e-from-le-MAX_FRAMES
+returns-then-e-from-le-MAX_FRAMES c = counting-last _ _ _ c.loop-from.invariant.1.1.1 (omega arith) (omega arith)
 
 pub loop-from-preserved : goal.loop-from-preserved
 loop-from-preserved c = (

@@ -7,7 +7,7 @@ use Rattle.pieces.proofs.count_pieces.Given as goal
 
 abbrev pub invariant-loop-from : goal.invariant-loop-from
 invariant-loop-from l =
-    (length (quiet_row l.floor l.levels) ≡ length l.levels) × ((l.from ≤ length l.levels) × ((l.n ≤ l.from) × Counting (quiet_row l.floor l.levels) l.from l.n))
+    (length (quiet_row l.e.floor l.e.levels.now) ≡ length l.e.levels.now) × ((l.from ≤ length l.e.levels.now) × ((l.n ≤ l.from) × Counting (quiet_row l.e.floor l.e.levels.now) l.from l.n))
 
 abbrev pub decreases-loop-from : goal.decreases-loop-from
-decreases-loop-from l = length l.levels - l.from
+decreases-loop-from l = length l.e.levels.now - l.from

@@ -25,9 +25,9 @@ bounds-starts-n c = omega (arith, writing-room c.loop-from.invariant.1.1.1.0 (om
 pub bounds-ends-n : goal.bounds-ends-n
 bounds-ends-n c = omega (arith, writing-room c.loop-from.invariant.1.1.1.1 (omega arith))
 
-pub returns-then-levels-from-le-MAX_FRAMES : goal.returns-then-levels-from-le-MAX_FRAMES
+pub returns-then-e-from-le-MAX_FRAMES : goal.returns-then-e-from-le-MAX_FRAMES
 unfolding starts_over ends_over
-returns-then-levels-from-le-MAX_FRAMES c = (
+returns-then-e-from-le-MAX_FRAMES c = (
   writing-last c.loop-from.invariant.1.1.1.0 (omega arith) (omega arith) refl,
   writing-last c.loop-from.invariant.1.1.1.1 (omega arith) (omega arith) refl,
 )

@@ -7,4 +7,4 @@ use Rattle.tally.proofs.add_words.Given as goal
 
 abbrev pub invariant-loop-i : goal.invariant-loop-i
 invariant-loop-i l =
-    (length l.places ≡ length l.initial.places) × (l.places ≡ filled (loud_row l.floor l.levels) l.phrases (edges l.starts l.ends) l.n l.i l.initial.places)
+    (length l.places ≡ length l.initial.places) × (l.places ≡ filled (loud_row l.e.floor l.e.levels.now) l.phrases (edges l.starts l.ends) l.n l.i l.initial.places)

@@ -5,16 +5,16 @@ use Rattle.base.proofs.Loops.{each_next, each-done}
 use Rattle.tally.specs.Parts.{loud_between}
 use Rattle.tally.proofs.Frames.{turn-loud, turn-quiet}
 use Rattle.tally.proofs.loud_count.Goals as goal
-use Rattle.tally.proofs.loud_count.Goals.{then-loud_at, else-loud_at}
+use Rattle.tally.proofs.loud_count.Goals.{then-loud, else-loud}
 
 pub loop-k-init : goal.loop-k-init
 loop-k-init c = (omega arith, (omega arith, unfold loud_between in refl))
 
 pub loop-k-preserved : goal.loop-k-preserved
 loop-k-preserved c =
-    elim c.if-loud_at.branch [
-      | then-loud_at w ↦ (omega arith, (omega arith, c.loop-k.invariant.1.1 ∙ each_next _ _ _ c.loop-k-test.true (turn-loud _ _ _ c.loud_at.ensures w.if-loud_at.true w.n-is)))
-      | else-loud_at w ↦ (omega arith, (omega arith, c.loop-k.invariant.1.1 ∙ each_next _ _ _ c.loop-k-test.true (turn-quiet _ _ _ c.loud_at.ensures w.if-loud_at.false w.n-is)))
+    elim c.if-loud.branch [
+      | then-loud w ↦ (omega arith, (omega arith, c.loop-k.invariant.1.1 ∙ each_next _ _ _ c.loop-k-test.true (turn-loud _ _ _ c.loud.ensures w.if-loud.true w.n-is)))
+      | else-loud w ↦ (omega arith, (omega arith, c.loop-k.invariant.1.1 ∙ each_next _ _ _ c.loop-k-test.true (turn-quiet _ _ _ c.loud.ensures w.if-loud.false w.n-is)))
     ]
 
 pub returns : goal.returns

@@ -6,7 +6,7 @@ use Rattle.ends.proofs.sound.sound_past.Given as goal
 
 abbrev pub invariant-loop-past : goal.invariant-loop-past
 invariant-loop-past l =
-    (l.from ≤ l.past) × ((l.past ≤ l.hi) × (sound_on l.edge (loud_row l.floor l.levels) l.from l.hi ≡ sound_on l.edge (loud_row l.floor l.levels) l.past l.hi))
+    (l.from ≤ l.past) × ((l.past ≤ l.hi) × (sound_on l.edge (loud_row l.e.floor l.e.levels.now) l.from l.hi ≡ sound_on l.edge (loud_row l.e.floor l.e.levels.now) l.past l.hi))
 
 abbrev pub decreases-loop-past : goal.decreases-loop-past
 decreases-loop-past l = l.hi - l.past

@@ -4,11 +4,11 @@ use mathlib.Core.Path.{sym, ◌∙◌}
 use Rattle.fit_to_sound.proofs.Rise.{start-past, start-loud, start-quiet}
 use Rattle.fit_to_sound.proofs.word_starts.rise_of.Goals as goal
 
-pub returns-then-levels-f : goal.returns-then-levels-f
-returns-then-levels-f c = start-past _ _ (omega arith) _ _ _ c.frame_index-f.ensures c.if-levels-f.true
+pub returns-then-e-f : goal.returns-then-e-f
+returns-then-e-f c = start-past _ _ (omega arith) _ _ _ c.frame_index-f.ensures c.if-e-f.true
 
-pub returns-then-loud_at : goal.returns-then-loud_at
-returns-then-loud_at c = start-loud _ _ (omega arith) _ _ _ c.frame_index-f.ensures c.if-levels-f.false (sym c.loud_at.ensures ∙ c.if-loud_at.true)
+pub returns-then-loud : goal.returns-then-loud
+returns-then-loud c = start-loud _ _ (omega arith) _ _ _ c.frame_index-f.ensures c.if-e-f.false (sym c.loud.ensures ∙ c.if-loud.true)
 
 pub returns : goal.returns
-returns c = start-quiet _ _ (omega arith) _ _ _ c.frame_index-f.ensures c.if-levels-f.false (sym c.loud_at.ensures ∙ c.if-loud_at.false) c.rise_from.ensures
+returns c = start-quiet _ _ (omega arith) _ _ _ c.frame_index-f.ensures c.if-e-f.false (sym c.loud.ensures ∙ c.if-loud.false) c.rise_from.ensures

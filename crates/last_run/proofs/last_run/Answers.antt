@@ -3,7 +3,7 @@ use Rattle.base.proofs.First.{refused}
 use Rattle.std.specs.Prelude.{Ok}
 use mathlib.Core.Path.{sym, ap, ◌∙◌}
 use Rattle.last_run.proofs.Rules.{call_by, fine-few}
-use Rattle.last_run.proofs.last_run_at.Goals as goal
+use Rattle.last_run.proofs.last_run.Goals as goal
 
 pub run_between-requires : goal.run_between-requires
 run_between-requires c = fine-few _ _ _ _ (sym c.in_ok-judge.ensures)

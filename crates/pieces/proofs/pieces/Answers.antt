@@ -3,7 +3,7 @@ use mathlib.Core.Path.{refl}
 use Rattle.base.proofs.First.{refused}
 use mathlib.Core.Path.{sym}
 use Rattle.pieces.proofs.Rules.{fine-ready, refused-made, call-made}
-use Rattle.pieces.proofs.pieces_at.Goals as goal
+use Rattle.pieces.proofs.pieces.Goals as goal
 
 pub accept-requires : goal.accept-requires
 accept-requires c = fine-ready _ _ _ _ _ (sym c.in_ok-judge.ensures)

@@ -3,7 +3,7 @@ use Rattle.base.proofs.First.{refused}
 use mathlib.Core.Path.{refl}
 use Rattle.fit_file.specs.FitFile.{Unchanged}
 use Rattle.fit_file.proofs.Calls.{refused-made, short, ready, accepted-made}
-use Rattle.fit_file.proofs.fit_file_at.Goals as goal
+use Rattle.fit_file.proofs.fit_file.Goals as goal
 
 pub duration_of-requires : goal.duration_of-requires
 duration_of-requires c =

@@ -3,7 +3,7 @@ use mathlib.Core.Path.{refl}
 use Rattle.base.proofs.First.{refused}
 use native.Mathlib.Omega.{arith}
 use Rattle.tally.proofs.Calls.{enough, ready, refused-made, accepted-made}
-use Rattle.tally.proofs.tally_at.Goals as goal
+use Rattle.tally.proofs.tally.Goals as goal
 
 pub clear_places-requires : goal.clear_places-requires
 clear_places-requires c = let e = enough _ _ _ _ _ _ c.in_ok-phrases_rule.ensures refl in omega (arith, e)
