@@ -1,10 +1,11 @@
 -- The places behind the words made zero, list by list. Assumes nothing.
-use Prim.Native.Nat.{ℕ, ◌-◌, ◌≤◌}
-use mathlib.Core.Path.{◌≡◌, ◌∙◌}
-use mathlib.Core.List.{List, append-nil}
+use Prim.Native.Nat.{ℕ, suc, ◌+◌, ◌-◌, ◌≤◌, ◌<◌}
+use mathlib.Core.Path.{◌≡◌, sym, ◌∙◌}
+use mathlib.Core.List.{List, [], ◌∷◌, ◌++◌, append-nil}
 use native.Mathlib.Omega.{arith}
-use lib.ListN.{length, take, drop, replicate, length-drop, drop_of_length-le}
-use lib.Seq.{length-take-le}
+use native.Mathlib.Numerals.{add-one}
+use lib.ListN.{length, take, drop, set, replicate, length-append, length-drop, drop_of_length-le}
+use lib.Seq.{length-take-le, take-suc-set, append_snoc}
 use lib.Ieee.{Float}
 use Rattle.base.specs.Words.{Words, words, in_places, zero_f, part, with_part, words_in_places}
 use Rattle.base.specs.Parts.{OneLength, first_words}
@@ -34,3 +35,24 @@ module _ (m c : ℕ) (ws : Words) (even : OneLength m ws) (h : c ≤ m) where
       words-alike (filled-places zero_f m c ws.starts _ even.0 h s) (filled-places zero_f m c ws.ends _ even.1.0 h e)
       (filled-places 0 m c ws.letters _ even.1.1.0 h l) (filled-places 0 m c ws.units _ even.1.1.1.0 h u)
       (filled-places 0 m c ws.keys _ even.1.1.1.1 h k)
+
+-- ---- a list in its places, of which those from c on are zero: one place more
+module _ {A : Type 0} where
+  cleared-next : (z : A) (m c : ℕ) (xs : List A) → c < m → m ≡ length xs
+      → in_places z m (take c xs) ≡ in_places z m (take (c + 1) (set xs c z))
+  cleared-next z m c xs h e =
+      let a : length (take c xs) ≡ c = length-take-le c xs (omega arith) in
+      let b : length (take c xs ++ (z ∷ [])) ≡ suc c = rw (length-append, a) (omega arith) in
+      let s : m - c ≡ suc (m - suc c) = omega arith in
+      rw (add-one, take-suc-set xs c z (omega arith), a, b, s) (sym (append_snoc (take c xs) z (replicate (m - suc c) z)))
+
+-- one word more made zero: its five lists in their places, with those from i + 1 on zero
+module _ (m i : ℕ) (ws : Words) (even : OneLength m ws) where
+  pub clear_next : i < m
+      → words_in_places m (first_words i ws)
+      ≡ words_in_places m (first_words (i + 1) (words (set ws.starts i zero_f) (set ws.ends i zero_f) (set ws.letters i 0) (set ws.units i 0) (set ws.keys i 0)))
+  unfolding words_in_places first_words
+  clear_next h =
+      words-alike (cleared-next zero_f m i ws.starts h (sym even.0)) (cleared-next zero_f m i ws.ends h (sym even.1.0))
+      (cleared-next 0 m i ws.letters h (sym even.1.1.0)) (cleared-next 0 m i ws.units h (sym even.1.1.1.0))
+      (cleared-next 0 m i ws.keys h (sym even.1.1.1.1))

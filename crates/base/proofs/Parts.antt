@@ -1,9 +1,9 @@
--- A part from a to e that was lent and came back: what stands before and behind it, and an empty part. Assumes nothing.
+-- A part from a to e that was lent and came back: what stands before and behind it, an empty part, and a part filled place by place. Assumes nothing.
 use Prim.Native.Nat.{ℕ, ◌+◌, ◌-◌, ◌≤◌, ◌<◌}
 use mathlib.Core.Path.{◌≡◌, sym, ap, ◌∙◌}
 use mathlib.Core.List.{List, [], ◌++◌, append_assoc}
 use native.Mathlib.Omega.{arith}
-use lib.ListN.{length, take, drop, length-append, length-drop, take-append-drop}
+use lib.ListN.{length, take, drop, replicate, length-append, length-drop, take-append-drop}
 use lib.Seq.{length-take-le, take-add, take_at, drop_at, drop-drop}
 use lib.Ieee.{Float, nan}
 use Rattle.base.specs.Words.{Edges, edges, times, times_at, part, with_part, part_edges, on_part}
@@ -40,6 +40,15 @@ module _ {A : Type 0} where
   -- ---- the first a, and the part behind them
   pub take_part : (a e : ℕ) (xs : List A) → a ≤ e → take a xs ++ part a e xs ≡ take e xs
   take_part a e xs h = let z : a + (e - a) ≡ e = omega arith in sym (ap (λ (k : ℕ). take k xs) (sym z) ∙ take-add a (e - a) xs)
+
+  -- ---- places i to e filled with v
+  unfoldable pub filled : ℕ → ℕ → A → List A → List A
+  filled i e v xs = with_part i e xs (replicate (e - i) v)
+
+  -- with none left to fill, it is the list
+  pub fill_done : (i e : ℕ) (v : A) (xs : List A) → i ≤ e → e ≤ i → filled i e v xs ≡ xs
+  unfolding filled
+  fill_done i e v xs h k = let z : e ≡ i = omega arith in let n : i - i ≡ 0 = omega arith in rw (z, n) (take-append-drop i xs)
 
 -- ---- both lists of times
 pub part-made : (a e : ℕ) (f : Edges → Edges) (es : Edges) {s t : List Float} → edges s t ≡ f (part_edges a e es)

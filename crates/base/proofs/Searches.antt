@@ -13,7 +13,7 @@ use Rattle.std.specs.Bool.{⊤}
 use Rattle.std.specs.Fn.{CalledAt}
 use Rattle.std.specs.Iterator.{YieldsThen}
 use Rattle.std.specs.List.{FoldsTo, AllWithin, HoldsAt}
-use Rattle.std.specs.Prelude.{Option, Some, None, MatchOption, unwrap_or}
+use Rattle.std.specs.Prelude.{Option, Some, None, MatchOption, IfSome, unwrap_or}
 use Rattle.std.specs.Range.{range_inclusive_left}
 use Rattle.std.specs.declared.iter.Rev.{Rev}
 use Rattle.std.specs.declared.ops.Range.{Range}
@@ -122,6 +122,16 @@ module _ {F : Type 0} {g : Mut F (Bor ℕ × Unit {0}) Bool} (f : F) (p : ℕ �
         → unwrap_or r s.end ≡ up p (s.end - s.start) s.start
     go None h = up-at p _ _ _ room (omega arith) (λ l. absurd (omega arith)) h
     go (Some i) h = up-at p _ _ _ h.0 (omega (arith, h.1)) (λ l. h.2) h.3
+
+  -- ---- what is found lies before the end
+  pub found_under : (s u : Range ℕ) (r : Option ℕ) → s.start ≤ s.end
+      → (xs : List ℕ) × (j : F) × YieldsThen nat_range_steps s xs r u × FoldsTo (λ p x q. CalledAt g p x false q) f xs j × MatchOption r ⊤ (λ x. (h : F) × CalledAt g j x true h)
+      → IfSome r (λ i. i < s.end)
+  found_under s u r room ran = go r (first_from_Range s u f r (λ x. p x ≡ false) (λ x. p x ≡ true) ran yes no) where
+    go : (r : Option ℕ) → MatchOption r ((k : ℕ) → s.start ≤ k → k < s.end → p k ≡ true) (λ i. (s.start ≤ i) × (i < s.end) × (p i ≡ false) × ((k : ℕ) → s.start ≤ k → k < i → p k ≡ true))
+        → IfSome r (λ i. i < s.end)
+    go None h = tt
+    go (Some i) h = h.1
 
   -- ---- downwards from e to 1; 0, where the test fails nowhere
   counted : {S : Type 0} {steps : S → Option ℕ → S → Type 0} (s u : S) (r : Option ℕ) (e : ℕ) → YieldsList steps (λ x. x) s (countdown e e)

@@ -2,6 +2,8 @@
 pub mod Whole
 pub mod Loop
 pub mod Words
+pub mod WordLists
+pub mod Spans
 pub mod Parts
 pub mod Floats
 pub mod Refusals

@@ -62,6 +62,11 @@ abbrev pub says_of : {A : Type 0} → A → Rule → Says A
 says_of values (Ok u) = accepts values
 says_of values (Err r) = refuses (number r)
 
+-- ---- "what that space holds after acceptance is free"; a refusal leaves the work space as it was.
+unfoldable pub Unchanged : {T A : Type 0} → Result T Refusal → List A → List A → Type 0
+Unchanged (Ok values) before after = Unit
+Unchanged (Err r) before after = after ≡ before
+
 -- ---- n is one of the numbers listed.
 abbrev pub Among : ℕ → List ℕ → Type 0
 Among n [] = ⊥

@@ -1,10 +1,28 @@
-// What every part shares: the refusals of document 01 with their numbers, and a word's times.
+// What every part shares: the refusals of document 01 with their numbers, a word's times, and the constants that more than one part uses.
 #![tactic(auto)]
 
 ghost use Rattle.std.specs.Prelude.{◌≡◌, ◌≤◌, length};
 ghost use Rattle.base.specs.Refusals.{number as number_of};
 ghost use Rattle.base.specs.Words.{words, words_in_places};
 ghost use Rattle.base.specs.Parts.{OneLength, first_words};
+
+pub mod spans;
+pub mod word_lists;
+
+// Samples in a frame.
+pub const HOP: usize = 160;
+// So many quiet frames in a row, 80 ms, end a sound.
+pub const EDGE_QUIET: usize = 8;
+// So many quiet frames in a row, 150 ms, end a word.
+pub const END_SILENCE: usize = 15;
+// An end that lies further past its sound, in seconds, is loose; a start so long after the word before ends, or longer, lies on no tail.
+pub const LOOSE: f64 = 0.05;
+// What a letter takes to say, in seconds, at the least.
+pub const MIN_LETTER: f64 = 0.05;
+// The sign's bit, among the bits of an f64.
+pub const SIGN: u64 = 0x8000_0000_0000_0000;
+// 2^52: the leading digit of a normal f64, which its bits leave out.
+pub const HIDDEN: u64 = 0x10_0000_0000_0000;
 
 // Why a call refuses.
 #[derive(Clone, Copy, Debug, PartialEq, Eq)]

@@ -6,13 +6,13 @@ use mathlib.Core.List.{List}
 use lib.Ieee.{Float}
 use Rattle.base.specs.Words.{Words}
 use Rattle.base.specs.Refusals.{Rule}
+use Rattle.base.specs.Refusals as refusals
 use Rattle.base.specs.declared.Refusal.{Refusal}
 use Rattle.loops.specs.declared.Left.{Left}
 use Rattle.full_run.specs.declared.Report.{Report}
 use Rattle.phrase_align.specs.PhraseAlign as phrases
 use Rattle.loops.specs.Loops as loops
 use Rattle.word_calls.specs.Calls.{Output, output}
-use Rattle.fit_file.specs.FitFile as fits
 use Rattle.tally.specs.Tally as tally
 use Rattle.full_run.specs.FullRun as full
 use Rattle.c_api.specs.Answers.{left_of, leaves, leaves_of, moved_of, reply, reply_of, placed_of, placement, placement_of, tallied, tallied_of, report_of, full_run_with, full_run_of, Unchanged}
@@ -37,8 +37,8 @@ unfolding placement_of
 placement-made ws f p q = ap (λ (m : QiluvraitPlaced). placement m ws f) p ∙ ap placement_of q
 
 -- ---- work space that a refusal leaves as it was
-pub kept-made : {A : Type 0} {n : ℕ} {before after : List A} (a : Rule) → n ≡ moved_of a → fits.Unchanged a before after → Unchanged n before after
-unfolding fits.Unchanged
+pub kept-made : {A : Type 0} {n : ℕ} {before after : List A} (a : Rule) → n ≡ moved_of a → refusals.Unchanged a before after → Unchanged n before after
+unfolding refusals.Unchanged
 kept-made (Ok u) p k = λ no. absurd (no p)
 kept-made (Err r) p k = λ _. k
 
@@ -47,7 +47,7 @@ pub full-run-made : {l : QiluvraitReport} {a : Result Report Refusal} {o : full.
 unfolding full_run_of
 full-run-made ws phrases ls s e p q = ap (λ (m : QiluvraitReport). full_run_with m ws phrases ls s e) p ∙ ap full_run_of q
 
-pub left-made : {A : Type 0} {l : QiluvraitReport} {before after : List A} (a : Result Report Refusal) → l ≡ report_of a → full.Unchanged a before after → Unchanged l.refusal before after
-unfolding full.Unchanged
+pub left-made : {A : Type 0} {l : QiluvraitReport} {before after : List A} (a : Result Report Refusal) → l ≡ report_of a → refusals.Unchanged a before after → Unchanged l.refusal before after
+unfolding refusals.Unchanged
 left-made (Ok r) p k = λ no. absurd (no (ap (λ (m : QiluvraitReport). m.refusal) p))
 left-made (Err r) p k = λ _. k

@@ -1,5 +1,6 @@
 // The calls of this library for C, C++ and Rust, as include/qiluvrait.h declares them. Each hands
-// its arguments on to the function it names, and has that function's contract.
+// its arguments on to the function it names, and has that function's contract. Lists side by side,
+// numbers for refusals, and answers with a number beside the values are what the C interface needs.
 #![tactic(auto)]
 
 ghost use Rattle.std.specs.Prelude.{◌≡◌, length};
@@ -25,6 +26,7 @@ ghost use Rattle.c_api.specs.Answers.{heard_of, cut_of, level_of, left_of, leave
 ghost use Rattle.c_api.specs.Answers.{report_of, full_run_with, full_run_of, run_of, searched_of, tallied, tallied_of, Unchanged};
 ghost use Rattle.frames.specs.Frames.{frame_at, frame_ceil, frame_from_zero, frame_seconds};
 
+use base::spans::Spans;
 use base::{Refusal, Times};
 use envelope::view::Envelope;
 use full_run::Report;
@@ -390,9 +392,11 @@ pub extern "C" fn qiluvrait_align_phrases(
         letters,
         units,
         keys,
-        span_starts,
-        span_ends,
-        counts,
+        Spans {
+            starts: span_starts,
+            ends: span_ends,
+            counts,
+        },
         phrases,
     );
     QiluvraitPlaced::from(answer)
@@ -555,9 +559,11 @@ pub extern "C" fn qiluvrait_fit_file(
         units,
         keys,
         phrases,
-        span_starts,
-        span_ends,
-        counts,
+        Spans {
+            starts: span_starts,
+            ends: span_ends,
+            counts,
+        },
         work_starts,
         work_ends,
         work_letters,
@@ -638,9 +644,11 @@ pub extern "C" fn qiluvrait_full_run(
         letters,
         units,
         keys,
-        span_starts,
-        span_ends,
-        counts,
+        Spans {
+            starts: span_starts,
+            ends: span_ends,
+            counts,
+        },
         phrases,
         levels,
         piece_starts,
@@ -685,9 +693,11 @@ pub extern "C" fn qiluvrait_tally(
         units,
         keys,
         phrases,
-        span_starts,
-        span_ends,
-        counts,
+        Spans {
+            starts: span_starts,
+            ends: span_ends,
+            counts,
+        },
         places,
     );
     moved(answer)

@@ -3,7 +3,7 @@ use Rattle.std.specs.Prelude.{Option}
 use Prim.Native.Nat.{ℕ, ◌≤◌, ◌^◌, min}
 use mathlib.Core.List.{List}
 use mathlib.Core.Path.{◌≡◌, sym, ap, ◌∙◌}
-use lib.IntN.{ℤ, pos, suc_ℤ, pred_ℤ, pred-suc}
+use lib.IntN.{pos}
 use lib.ListN.{length}
 use lib.Ieee.{Float}
 use Rattle.base.specs.Words.{edge_quiet}
@@ -15,11 +15,11 @@ use Rattle.ends.specs.Ends.{last_loud, sound_end, reach, or_duration, trimmed, e
 use Rattle.ends.proofs.SoundEnds.{last_loud-is}
 
 module _ (floor : Float) (levels : List Float) (short : length levels ≤ 2 ^ 40) (duration : Float) (next : Option Float) (w : Times) where
-  pub end_of_is : {lo hi past : ℕ} {s : Option Float} {limit : Float} {r : Times} → lo ≡ min (to_nat (frame_at w.start)) (2 ^ 40)
+  pub end_of_is : {lo hi : ℕ} {s : Option Float} {limit : Float} {r : Times} → lo ≡ min (to_nat (frame_at w.start)) (2 ^ 40)
       → hi ≡ min (length levels) (min (to_nat (frame_at (reach next duration w.start))) (2 ^ 40))
-      → pos past ≡ suc_ℤ (last_loud edge_quiet (loud_row floor levels) (pos lo) (pos hi)) → s ≡ sound_end (pred_ℤ (pos past))
+      → s ≡ sound_end (last_loud edge_quiet (loud_row floor levels) (pos lo) (pos hi))
       → limit ≡ or_duration next duration → r ≡ trimmed s limit w → r ≡ end_of (loud_row floor levels) duration next w
   unfolding end_of
-  end_of_is {lo} {hi} islo ishi p es el er =
+  end_of_is {lo} {hi} islo ishi es el er =
       let l = last_loud-is edge_quiet floor levels short (frame_at w.start) (frame_at (reach next duration w.start)) lo hi islo ishi in
-      er ∙ rw (el, es ∙ ap (λ (z : ℤ). sound_end (pred_ℤ z)) p ∙ ap sound_end (pred-suc (last_loud edge_quiet (loud_row floor levels) (pos lo) (pos hi)) ∙ sym l))
+      er ∙ rw (el, es ∙ ap sound_end (sym l))

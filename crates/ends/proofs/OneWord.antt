@@ -12,7 +12,7 @@ use Rattle.base.specs.Floats.{◌⊕◌, ◌⊖◌}
 use Rattle.base.specs.Words.{times}
 use Rattle.base.specs.declared.Times.{Times}
 use Rattle.js.specs.Js.{js_min, js_max}
-use Rattle.ends.specs.Ends.{no_length, next_start, soon, is_pair, reach, or_duration, trimmed}
+use Rattle.ends.specs.Ends.{no_length, next_start, soon, is_pair, reach, or_duration, trimmed, pair_start, pair_edge, pair_of}
 use Rattle.ends.specs.Parts.{is_loose}
 
 -- ---- the next word
@@ -59,6 +59,12 @@ module _ (starts : List Float) (i : ℕ) where
     go : (t : Bool) → ltb (i + 1) (length starts) ≡ t → t ≡ true
     go true t = refl
     go false t = never (lt (w.end ⊖ w.start) no_length) (rw (e, t) at p)
+
+-- ---- two words with no length: what the first becomes, by the start and the edge between them
+pub pair_is : {s e : Float} (row : List Bool) (w : Times) (next_end : Float) (own other : ℕ) → s ≡ pair_start row w.start next_end → e ≡ pair_edge s next_end own other
+    → times s e ≡ pair_of row w next_end own other
+unfolding pair_of
+pair_is row w next_end own other es ee = rw (ee, es)
 
 -- ---- a word's end, cut back to its sound
 module _ (sound : Float) (w : Times) where

@@ -9,7 +9,7 @@ use native.Mathlib.Omega.{arith}
 use native.Mathlib.Numerals.{add-one}
 use borrow.Author.Tests.{leb-true, leb-false, le-leb, lt-leb, ne_eqb, le-ltb}
 use lib.Dec.{leb, eqb}
-use lib.IntN.{ℤ, pos, negsuc, suc_ℤ, pred_ℤ, suc-pred}
+use lib.IntN.{ℤ, pos, negsuc, suc_ℤ, pred_ℤ, suc-pred, pred-suc}
 use lib.ListN.{length}
 use lib.Ieee.{Float}
 use Rattle.base.specs.Whole.{to_nat, min_z}
@@ -228,6 +228,13 @@ pub sound-some : {s : Float} (past : ℕ) → (past ≡ 0 → ⊥) → s ≡ fra
 unfolding sound_end
 sound-some zero n e = absurd (n refl)
 sound-some (suc p) n e = rw (le-ltb p 0 (omega arith), add-one p, e)
+
+-- ---- the same by the search itself: no frame is met, or the last one is the one before `past`
+pub end-none : (last : ℤ) → pos 0 ≡ suc_ℤ last → None ≡ sound_end last
+end-none last h = sound_none 0 refl ∙ ap (λ (z : ℤ). sound_end (pred_ℤ z)) h ∙ ap sound_end (pred-suc last)
+
+pub end-some : {s : Float} (past : ℕ) (last : ℤ) → (past ≡ 0 → ⊥) → pos past ≡ suc_ℤ last → s ≡ frame_seconds (pos past) → Some s ≡ sound_end last
+end-some past last n h e = sound-some past n e ∙ ap (λ (z : ℤ). sound_end (pred_ℤ z)) h ∙ ap sound_end (pred-suc last)
 
 -- ---- a search from frame a to b, where there are frames, is one between indices that are cut at 2 ^ 40
 module _ (edge : ℕ) (floor : Float) (levels : List Float) (short : length levels ≤ 2 ^ 40) (a b : ℤ) (lo hi : ℕ)

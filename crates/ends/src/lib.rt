@@ -7,6 +7,7 @@ ghost use Rattle.word_calls.specs.Calls.{output};
 ghost use Rattle.ends.specs.Ends.{end_turn, snap_ends, ends_call, set_pair};
 ghost use Rattle.envelope.specs.Frames.{loud_in};
 
+use base::word_lists::WordLists;
 use base::{Refusal, Times};
 use envelope::view::Envelope;
 
@@ -87,11 +88,13 @@ pub fn snap_ends(
         output result after ≡ ends_call before e.entry.levels.now e.entry.floor e.entry.count duration }
 {
     word_calls::timed_rule(
-        starts,
-        ends,
-        letters,
-        units,
-        keys,
+        WordLists {
+            starts,
+            ends,
+            letters,
+            units,
+            keys,
+        },
         e.levels.len(),
         e.count,
         duration,

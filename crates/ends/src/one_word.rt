@@ -4,17 +4,13 @@ ghost use Rattle.ends.specs.Ends.{next_start, soon as soon_of, is_pair, pair_sta
 ghost use Rattle.ends.specs.Parts.{is_loose};
 ghost use Rattle.envelope.specs.Frames.{loud_in};
 
-use base::Times;
+use base::{EDGE_QUIET, LOOSE, Times};
 use envelope::view::Envelope;
 
 // A shorter word, in seconds, is too short to be one.
 const NO_LENGTH: f64 = 0.06;
 // What a word that is too short and the next have between them, in seconds, at the least.
 const PAIR_SPAN: f64 = 0.12;
-// An end that lies further past its sound, in seconds, is loose.
-const LOOSE: f64 = 0.05;
-// So many quiet frames in a row, 80 ms, end a sound.
-const EDGE_QUIET: usize = 8;
 
 // An end that is loose, or a word that is too short.
 #[tactic(auto, unfolding(crate::specs::Parts::is_loose))]
@@ -74,12 +70,8 @@ pub fn end_of(e: Envelope<'_>, duration: f64, next: Option<f64>, w: Times) -> Ti
         .levels
         .len()
         .min(frames::frame_index(reach(next, duration, w.start)));
-    let past = super::sound::last_loud(e, EDGE_QUIET, lo, hi);
-    trim(
-        super::sound::sound_end(past),
-        or_duration(next, duration),
-        w,
-    )
+    let sound = super::sound::sound_end(e, EDGE_QUIET, lo, hi);
+    trim(sound, or_duration(next, duration), w)
 }
 
 // Where the word after word i starts, if there is one.

@@ -1,5 +1,5 @@
 -- The places of the levels: filling them one by one leaves the levels, and what stood behind. Assumes nothing.
-use Rattle.std.proofs.Common.{◌≡◌, ℕ, ◌+◌, ◌-◌, ◌*◌, ◌≤◌, List, ◌++◌, length, take, drop, ap, ◌∙◌, arith, take_at}
+use Rattle.std.proofs.Common.{◌≡◌, ℕ, ◌+◌, ◌-◌, ◌*◌, ◌≤◌, List, ◌++◌, length, take, drop, sym, ap, ◌∙◌, arith, take_at}
 use lib.Ieee.{Float}
 use Rattle.base.specs.Loop.{each}
 use Rattle.base.proofs.Loops.{each-table, length-table}
@@ -22,3 +22,7 @@ length-levels samples = length-table (λ (k : ℕ). level (frame samples k)) (fr
 -- the levels are the front of what the places then hold
 pub front-levels : (samples places held : List Float) → held ≡ levels samples ++ drop (frames samples) places → take (frames samples) held ≡ levels samples
 front-levels samples places held e = ap (take (frames samples)) e ∙ take_at (levels samples) (drop (frames samples) places) (frames samples) (length-levels samples)
+
+-- and as long
+pub front_length : (samples places held : List Float) → held ≡ levels samples ++ drop (frames samples) places → frames samples ≡ length (take (frames samples) held)
+front_length samples places held e = sym (ap length (front-levels samples places held e) ∙ length-levels samples)

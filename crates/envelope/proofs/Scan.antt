@@ -1,5 +1,5 @@
--- A search from the back for a loud frame passes one frame more; what a comparison of two tests says; and a row as long as its levels. Assumes nothing.
-use Rattle.std.proofs.Common.{◌≡◌, ℕ, ◌-◌, ◌<◌, ◌≤◌, Bool, true, false, not, ltb, List, length, pos, sym, refl, ◌∙◌, true≢false, arith, ltb-false, ltb-true}
+-- A search for a loud frame, or for one that is not, passes one frame more, upwards or from the back; what a comparison of two tests says; and a row as long as its levels. Assumes nothing.
+use Rattle.std.proofs.Common.{◌≡◌, ℕ, ◌+◌, ◌-◌, ◌<◌, ◌≤◌, Bool, true, false, not, ltb, List, length, pos, sym, refl, ◌∙◌, true≢false, arith, ltb-false, ltb-true}
 use mathlib.Core.Bool.{beq}
 use lib.ListN.{length-map, get_or-eq_default}
 use lib.Ieee.{Float, lt}
@@ -16,6 +16,14 @@ beq-not true true e = e
 beq-not false false e = sym e
 beq-not true false e = refl
 beq-not false true e = refl
+
+-- ---- a search passes one frame more
+pub one_more : (row : List Bool) (b : Bool) (lo k : ℕ) → ((j : ℕ) → lo ≤ j → j < k → loud row (pos j) ≡ b) → loud row (pos k) ≡ b
+    → (j : ℕ) → lo ≤ j → j < k + 1 → loud row (pos j) ≡ b
+one_more row b lo k a e j p q = go (ltb j k) refl where
+  go : (t : Bool) → ltb j k ≡ t → loud row (pos j) ≡ b
+  go true t = a j p (ltb-true j k t)
+  go false t = let l = ltb-false j k t in let z : j ≡ k = omega arith in rw z e
 
 -- ---- a search from the back passes one frame more
 pub one_less : (row : List Bool) (hi k : ℕ) → 0 < k → ((j : ℕ) → k ≤ j → j < hi → loud row (pos j) ≡ false) → loud row (pos (k - 1)) ≡ false

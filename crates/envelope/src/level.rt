@@ -7,12 +7,11 @@ ghost use Rattle.roots.specs.Sqrt.{sqrt as sqrt_of};
 ghost use Rattle.envelope.specs.Envelope.{squares as squares_of, level as level_of, levels as levels_of, frames, hop_f};
 ghost use Rattle.envelope.specs.Parts.{NoNan, Summed, stored};
 
+use base::HOP;
 use std::num::f32_to_f64_with_nan;
 
-// Samples in a frame.
-const HOP: usize = 160;
 // Samples in four frames.
-const FOUR_HOPS: usize = 640;
+const FOUR_HOPS: usize = 4 * HOP;
 
 // The sums of squares of four neighbouring frames.
 #[derive(Drop)]

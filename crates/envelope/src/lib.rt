@@ -1,18 +1,15 @@
 // The levels of a recording and the floor under them, by one call (envelope.rs).
 #![tactic(auto)]
 
-ghost use Rattle.std.specs.Prelude.{◌≡◌, ◌≤◌, length};
+ghost use Rattle.std.specs.Prelude.{◌≡◌, ◌++◌, ◌≤◌, length, drop};
 ghost use Rattle.base.specs.Refusals.{first};
-ghost use Rattle.envelope.specs.Envelope.{frames, output, tests, accepted, envelope_call};
+ghost use Rattle.envelope.specs.Envelope.{frames, levels as levels_of, floor as floor_of, output, tests, envelope_call};
 
-use base::Refusal;
+use base::{HOP, Refusal};
 
 pub mod floor;
 pub mod level;
 pub mod view;
-
-// Samples in a frame.
-const HOP: usize = 160;
 
 // The first refusal that applies, of 4 and 6.
 #[tactic(auto, unfolding(crate::specs::Envelope::tests, base::specs::Refusals::first))]
@@ -28,10 +25,12 @@ fn judge(samples: &[f32], levels: &[f64]) -> Result<(), Refusal>
     Ok(())
 }
 
-// The levels of a recording that is within the limits, in their places, and the floor, which is given back.
-fn accept(samples: &[f32], levels: &mut [f64]) -> f64
+// The levels of a recording that is within the limits, in their places, and the floor under them, which is given back.
+pub fn hear(samples: &[f32], levels: &mut [f64]) -> f64
     requires { (length samples.now ≤ 57600000) × (frames samples.now ≤ length levels.old) }
-    ensures { output (Ok result) levels.new ≡ accepted samples.now levels.old }
+    ensures { (levels.new
+        ≡ levels_of samples.now ++ drop (frames samples.now) levels.old)
+        × (result ≡ floor_of (levels_of samples.now)) }
 {
     level::fill(samples, levels);
     let n = samples.len() / HOP;
@@ -43,5 +42,5 @@ pub fn envelope(samples: &[f32], levels: &mut [f64]) -> Result<f64, Refusal>
     ensures { output result levels.new ≡ envelope_call samples.now levels.old }
 {
     judge(samples, levels)?;
-    Ok(accept(samples, levels))
+    Ok(hear(samples, levels))
 }

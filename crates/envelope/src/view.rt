@@ -45,7 +45,8 @@ impl<'a> Envelope<'a> {
         super::floor::own_floor(self.levels, self.floor)
     }
 
-    // The first frame from lo to before hi that is loud, or that is not; where there is none, the end of the search.
+    // The first frame from lo to before hi that is loud, or that is not; where there is none, the end of the search
+    // (an `Option` would be no plainer: the tails measure from there, and the onsets stop there).
     pub fn first_frame(self, want: bool, lo: usize, hi: usize) -> usize
         ensures { Met (loud_in self.entry) want lo hi result }
     {
@@ -57,7 +58,8 @@ impl<'a> Envelope<'a> {
         lo.max(hi)
     }
 
-    // The frame past the last loud one from lo to before hi; lo where there is none.
+    // The frame past the last loud one from lo to before hi; lo where there is none (an `Option` would be no plainer:
+    // the sound then ends where it stood).
     pub fn last_frame(self, lo: usize, hi: usize) -> usize
         ensures { Past (loud_in self.entry) lo hi result }
     {

@@ -1,4 +1,5 @@
 -- Laws of evening.
+pub mod Stretches
 pub mod Runs
 pub mod Turns
 pub mod Unchanged

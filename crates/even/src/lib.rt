@@ -7,6 +7,7 @@ ghost use Rattle.word_calls.specs.Calls.{output};
 ghost use Rattle.even.specs.Even.{even_run, even_turn, even_out, even_call};
 
 use base::Refusal;
+use base::word_lists::WordLists;
 use stretch::Stretch;
 
 pub mod stretch;
@@ -78,7 +79,16 @@ pub fn even_out(
         let after = words starts.new ends.new letters.now units.now keys.now in
         output result after ≡ even_call before limit }
 {
-    word_calls::limit_rule(starts, ends, letters, units, keys, limit)?;
+    word_calls::limit_rule(
+        WordLists {
+            starts,
+            ends,
+            letters,
+            units,
+            keys,
+        },
+        limit,
+    )?;
     even_words(starts, ends, letters, limit);
     Ok(())
 }

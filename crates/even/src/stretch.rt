@@ -6,14 +6,14 @@ ghost use Rattle.base.specs.Words.{edges};
 ghost use Rattle.even.specs.Even.{min_letter, max_span, sum as sum_of, crushed, swollen, first_crushed, with_swollen, last_crushed};
 ghost use Rattle.even.specs.Even.{grown as grown_to, ceiling_of, borrowed as borrowed_to, end_of, stretch_of};
 
+use base::MIN_LETTER;
+
 // A word of fewer seconds is crushed.
 const CRUSHED: f64 = 0.08;
 // A word of more seconds than this, and its letters said slowly, is swollen.
 const SWOLLEN_BASE: f64 = 0.25;
 // What a letter takes, in seconds, when it is said slowly.
 const SLOW_LETTER: f64 = 0.12;
-// What a letter takes, in seconds, at the least.
-const MIN_LETTER: f64 = 0.05;
 // What a slow word takes, in seconds, beyond its letters.
 const SLOW_WORD: f64 = 0.1;
 // Where the last word of a run stands so many places behind the first, the run takes no more words along.

@@ -1,6 +1,5 @@
 -- fit.rs, fit_file with phrase groups, line by line. A `row` says which frames are loud. Assumes nothing.
-use Rattle.base.specs.Refusals.{Rule}
-use Rattle.std.specs.Prelude.{ℕ, ◌-◌, min, cond, Bool, List, [], ◌∷◌, ◌++◌, map, ◌≡◌, eqb, ltb, get_or, set, length, Float, Ok, Err, Option, Some, None}
+use Rattle.std.specs.Prelude.{ℕ, ◌-◌, min, cond, Bool, List, [], ◌∷◌, ◌++◌, map, eqb, ltb, get_or, set, length, Float, Option, Some, None}
 use Rattle.std.specs.Float.{nan, binary64}
 use Rattle.std.specs.Float.Ieee.{of_bits, lt}
 use Rattle.base.specs.Loop.{each}
@@ -115,8 +114,3 @@ unfoldable pub fit_file_call : Words → List ℕ → Spans → List Float → F
 fit_file_call ws phrases spans levels floor samples places =
     moved (phrases_rule ws (length phrases) spans (length levels) samples places (count ws))
     (fit_file (loud_row floor levels) (duration_of samples) ws.letters phrases (edges spans.starts spans.ends) (edges ws.starts ws.ends)) ws
-
--- ---- "what that space holds after acceptance is free"; a refusal leaves it as it was.
-unfoldable pub Unchanged : {A : Type 0} → Rule → List A → List A → Type 0
-Unchanged (Ok u) before after = Unit
-Unchanged (Err r) before after = after ≡ before

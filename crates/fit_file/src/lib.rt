@@ -2,19 +2,22 @@
 #![tactic(auto)]
 
 ghost use Rattle.std.specs.Prelude.{◌≡◌, ◌≤◌, length};
-ghost use Rattle.base.specs.Words.{words, spans};
+ghost use Rattle.base.specs.Words.{words};
+ghost use Rattle.base.specs.Spans.{spans_of};
+ghost use Rattle.base.specs.Refusals.{Unchanged};
 ghost use Rattle.word_calls.specs.Calls.{output};
-ghost use Rattle.fit_file.specs.FitFile.{duration_of, work_places, fit_file_call, Unchanged};
+ghost use Rattle.fit_file.specs.FitFile.{duration_of, work_places, fit_file_call};
 
 use base::Refusal;
+use base::spans::Spans;
+use base::word_lists::WordLists;
 use envelope::view::Envelope;
+use frames::RATE;
 
 pub mod each_phrase;
 pub mod group;
 pub mod one_phrase;
 
-// Samples in a second.
-const RATE: f64 = 16000.0;
 // How long a recording of so many samples is, in seconds.
 pub fn duration_of(count: usize) -> f64
     requires { count ≤ 57600000 }
@@ -32,16 +35,14 @@ pub fn fit_file(
     units: &[u32],
     keys: &[u32],
     phrases: &[u32],
-    span_starts: &[f64],
-    span_ends: &[f64],
-    counts: &[u32],
+    spans: Spans<'_>,
     work_starts: &mut [f64],
     work_ends: &mut [f64],
     work_letters: &mut [u32],
 ) -> Result<(), Refusal>
     ensures { let before = words starts.old ends.old letters.now units.now keys.now in
         let after = words starts.new ends.new letters.now units.now keys.now in
-        let all_spans = spans span_starts.now span_ends.now counts.now in
+        let all_spans = spans_of spans.entry in
         let room = work_places (length work_starts.old) (length work_ends.old) (length work_letters.old) in
         (output result after ≡ fit_file_call before phrases.now all_spans e.entry.levels.now e.entry.floor e.entry.count room)
         × (Unchanged result work_starts.old work_starts.new
@@ -53,15 +54,15 @@ pub fn fit_file(
         .min(work_ends.len())
         .min(work_letters.len());
     word_calls::phrases_rule(
-        starts,
-        ends,
-        letters,
-        units,
-        keys,
+        WordLists {
+            starts,
+            ends,
+            letters,
+            units,
+            keys,
+        },
         phrases.len(),
-        span_starts,
-        span_ends,
-        counts,
+        spans,
         e.levels.len(),
         e.count,
         places,
@@ -72,8 +73,8 @@ pub fn fit_file(
         ends,
         letters,
         phrases,
-        span_starts,
-        span_ends,
+        spans.starts,
+        spans.ends,
         e,
         duration_of(e.count),
         work_starts,

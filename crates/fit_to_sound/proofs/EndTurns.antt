@@ -16,6 +16,11 @@ use Rattle.fit_to_sound.proofs.Starts.{set-end}
 
 -- ---- 6. the next word, or none
 module _ (row : List Bool) (w : Times) where
+  -- no next word, and its sound ends later: the word ends there
+  pub end_later : (end : Float) → lt w.end end ≡ true → times w.start end ≡ lasts_to row None end w
+  unfolding lasts_to
+  end_later end h = rw h
+
   pub lasts-by : {next by : Option Float} {r : Times} (end : Float) → next ≡ by → r ≡ lasts_to row by end w → r ≡ lasts_to row next end w
   lasts-by end e h = rw e h
 

@@ -6,7 +6,7 @@ use mathlib.Core.List.{List}
 use mathlib.Core.Path.{◌≡◌, refl, sym, ap, ◌∙◌}
 use native.Mathlib.Omega.{arith}
 use borrow.Author.Tests.{le-leb, lt-leb}
-use lib.IntN.{ℤ, pos, suc_ℤ, pred_ℤ, pred-suc}
+use lib.IntN.{pos}
 use lib.ListN.{get_or, length}
 use lib.Ieee.{Float}
 use Rattle.base.specs.Whole.{to_nat, min_z}
@@ -81,9 +81,9 @@ module _ (floor : Float) (levels : List Float) (short : length levels ≤ 2 ^ 40
       ∙ sym (rw (length-row floor levels, from_zero-pos from) (ap (λ (s : Quiet). s.met) (range-end (quiet_turn row) (to_nat (frame_at from)) (min_z (pos (length levels)) (frame_from_zero to)) (record { run = 0; met = false }))
       ∙ ap (λ (n : ℕ). (run (quiet_turn row) (n - to_nat (frame_at from)) (pos (to_nat (frame_at from))) (on (record { run = 0; met = false }))).met) top))
 
-  pub sound_end_in-is : {past : ℕ} {r : Option Float} → pos past ≡ suc_ℤ (last_loud end_silence (loud_row floor levels) (pos lo) (pos hi)) → r ≡ sound_end (pred_ℤ (pos past))
+  pub sound_end_in-is : {r : Option Float} → r ≡ sound_end (last_loud end_silence (loud_row floor levels) (pos lo) (pos hi))
       → r ≡ sound_end_in (loud_row floor levels) from to
   unfolding sound_end_in
-  sound_end_in-is p e =
+  sound_end_in-is e =
       let l = last_loud-is end_silence floor levels short (frame_from_zero from) (frame_from_zero to) lo hi lo-is hi-is in
-      e ∙ ap (λ (z : ℤ). sound_end (pred_ℤ z)) p ∙ ap sound_end (pred-suc (last_loud end_silence (loud_row floor levels) (pos lo) (pos hi)) ∙ sym l)
+      e ∙ ap sound_end (sym l)

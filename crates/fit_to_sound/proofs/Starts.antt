@@ -1,17 +1,31 @@
 -- Starts in order, and what the loops over the words store. Assumes nothing.
 use Rattle.std.specs.Prelude.{Option}
-use Prim.Native.Nat.{ℕ, ◌+◌}
+use Prim.Native.Nat.{ℕ, ◌+◌, ◌-◌, ◌<◌}
 use mathlib.Core.Bool.{Bool, true, false, cond}
 use mathlib.Core.List.{List}
 use mathlib.Core.Path.{◌≡◌, refl, sym, ap, ◌∙◌}
+use borrow.Author.Tests.{lt-ltb}
 use lib.ListN.{get_or, set}
 use lib.Seq.{set-get_or}
 use lib.Ieee.{Float, nan, lt}
+use Rattle.base.specs.Floats.{◌⊕◌}
 use Rattle.base.specs.Words.{edges, times}
 use Rattle.base.specs.declared.Times.{Times}
-use Rattle.js.specs.Js.{js_max}
+use Rattle.js.specs.Js.{js_min, js_max}
 use Rattle.ends.specs.Ends.{next_start}
-use Rattle.fit_to_sound.specs.FitToSound.{step_start, in_order, order_turn, rise_of, rise_turn_of, clipped, clip_turn}
+use Rattle.fit_to_sound.specs.FitToSound.{min_step, step_start, in_order, order_turn, rise_of, rise_turn_of, clipped, clip_turn}
+
+-- ---- a start after another one
+module _ (starts : List Float) (i : ℕ) where
+  pub step_after : {r : Float} → 0 < i → r ≡ js_max (get_or starts i nan) (get_or starts (i - 1) nan ⊕ min_step) → r ≡ step_start starts i
+  unfolding step_start
+  step_after h e = rw (lt-ltb 0 i h) e
+
+-- ---- a word in order, by its new end
+module _ (w : Times) where
+  pub order_is : {a b : Float} (duration : Float) → a ≡ js_max w.end w.start → b ≡ js_min duration a → times w.start b ≡ in_order duration w
+  unfolding in_order
+  order_is duration ea eb = rw (eb, ea)
 
 -- ---- clipping moves the end only
 clip-start : (next : Float) (w : Times) → (clipped next w).start ≡ w.start

@@ -8,6 +8,7 @@ ghost use Rattle.fit_to_sound.specs.FitToSound.{fit_to_sound, fit_call};
 ghost use Rattle.envelope.specs.Frames.{loud_in};
 
 use base::Refusal;
+use base::word_lists::WordLists;
 use envelope::view::Envelope;
 
 pub mod word_ends;
@@ -50,11 +51,13 @@ pub fn fit_to_sound(
         output result after ≡ fit_call before e.entry.levels.now e.entry.floor e.entry.count duration }
 {
     word_calls::timed_rule(
-        starts,
-        ends,
-        letters,
-        units,
-        keys,
+        WordLists {
+            starts,
+            ends,
+            letters,
+            units,
+            keys,
+        },
         e.levels.len(),
         e.count,
         duration,

@@ -5,17 +5,12 @@ ghost use Rattle.fit_to_sound.specs.FitToSound.{sound_end_in, quiet_between, qui
 ghost use Rattle.fit_to_sound.specs.Parts.{counted as counted_of, is_loose};
 ghost use Rattle.envelope.specs.Frames.{loud_in};
 
-use base::Times;
+use base::{END_SILENCE, LOOSE, MIN_LETTER, Times};
 use envelope::view::Envelope;
 
-// So many quiet frames in a row, 150 ms, end a word.
-const END_SILENCE: usize = 15;
-// An end that lies further past its sound, in seconds, is cut back.
-const LOOSE: f64 = 0.05;
 // A cut leaves a word so much, in seconds, or what its letters need.
 const MAX_NEED: f64 = 0.3;
-// What a letter needs, in seconds, at the least.
-const LETTER_TIME: f64 = 0.05;
+
 // Where the sound that starts between two times ends, or no sound (fit.rs, sound_end).
 fn sound_end_in(e: Envelope<'_>, from: f64, to: f64) -> Option<f64>
     requires { length e.levels.now ≤ 2 ^ 40 }
@@ -23,7 +18,7 @@ fn sound_end_in(e: Envelope<'_>, from: f64, to: f64) -> Option<f64>
 {
     let lo = frames::frame_index(from);
     let hi = e.levels.len().min(frames::frame_index(to));
-    ends::sound::sound_end(ends::sound::last_loud(e, END_SILENCE, lo, hi))
+    ends::sound::sound_end(e, END_SILENCE, lo, hi)
 }
 
 // So many quiet frames in a row, with one frame more.
@@ -67,7 +62,7 @@ fn quiet_run(e: Envelope<'_>, from: f64, to: f64) -> bool
 fn is_loose(letters: u32, end: f64, w: Times) -> bool
     ensures { result ≡ is_loose letters end w }
 {
-    w.end > end + LOOSE && end - w.start >= js::js_min(MAX_NEED, LETTER_TIME * (letters as f64))
+    w.end > end + LOOSE && end - w.start >= js::js_min(MAX_NEED, MIN_LETTER * (letters as f64))
 }
 
 // A loose end is cut back to its sound's end (fit_to_sound, step 5).

@@ -70,7 +70,8 @@ fn is_loud_run(e: Envelope<'_>, k: usize) -> bool
     e.loud(k) && e.loud(k + 1) && e.loud(k + 2)
 }
 
-// The first frame from f to before stop at which a sound starts; where there is none, the end of the search.
+// The first frame from f to before stop at which a sound starts; where there is none, the end of the search, as the Rust's loop leaves its
+// frame (an `Option` would be no plainer: its definition is that frame).
 fn rise_frame(e: Envelope<'_>, f: usize, stop: usize) -> usize
     requires { stop ≤ 2 ^ 40 }
     ensures { pos result ≡ rise_frame (loud_in e.entry) (pos f) (pos stop) }

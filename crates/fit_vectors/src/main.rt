@@ -20,20 +20,12 @@
 // A row is wrong where the call refuses it.
 #![tactic(auto)]
 
+use base::spans::Spans;
 use envelope::view::Envelope;
 use std::io;
 use std::num::f64_from_bits_with_nan as float;
-use vector_rows::numbers::{has_bits, levels};
+use vector_rows::numbers::{DURATION, FLOOR, SAMPLES, has_bits, levels};
 use vector_rows::rows::{RowKind, replay};
-
-// A frame above this level is loud.
-const FLOOR: f64 = 0.5;
-
-// Samples of the recording: 64 frames.
-const SAMPLES: usize = 10240;
-
-// How long it is, in seconds; a word ends there.
-const DURATION: f64 = 0.64;
 
 // Which of two times a row asks for.
 #[derive(Clone, Copy, Debug, PartialEq, Eq)]
@@ -108,7 +100,7 @@ fn is_edge(edge: Edge, times: Option<(f64, f64)>, bits: u64) -> bool {
     }
 }
 
-// The start and the end of the last run up to a time, each a NaN where there is no sound.
+// The start and the end of the last run up to a time, each a NaN where there is no sound, as the rows have it.
 fn run_times(levels: &[f64; 64], to: f64) -> Option<(f64, f64)> {
     match last_run::last_run(Envelope::new(levels, FLOOR, SAMPLES), 0.0, to).ok()? {
         Some(run) => Some((run.start, run.end)),
@@ -142,8 +134,11 @@ fn filed_times(levels: &[f64; 64], start: f64) -> Option<(f64, f64)> {
     let letters = [4];
     let ones = [1];
     let phrases = [0];
-    let span_starts = [0.0];
-    let span_ends = [DURATION];
+    let whole = Spans {
+        starts: &[0.0],
+        ends: &[DURATION],
+        counts: &ones,
+    };
     let mut work_starts = [0.0];
     let mut work_ends = [0.0];
     let mut work_letters = [0];
@@ -155,9 +150,7 @@ fn filed_times(levels: &[f64; 64], start: f64) -> Option<(f64, f64)> {
         &ones,
         &ones,
         &phrases,
-        &span_starts,
-        &span_ends,
-        &ones,
+        whole,
         &mut work_starts,
         &mut work_ends,
         &mut work_letters,

@@ -1,6 +1,6 @@
 -- Rounding down and up to an i64, by the sign of x: below zero, the floor of x is the ceiling of -x negated, and the ceiling of x the floor of -x negated.
 -- A whole number below 2 ^ 53 is an f64, so comparing it with x tells whether x has a fraction; from 2 ^ 53 on no f64 has one. Assumes nothing.
-use Rattle.std.proofs.Common.{◌≡◌, ℕ, zero, suc, ◌+◌, ◌-◌, ◌*◌, ◌/◌, ◌%◌, ◌^◌, ◌<◌, ◌≤◌, min, Bool, true, false, cond, T, ltb, ℤ, pos, negsuc, neg_ℤ, ◌-ℤ◌, sym, refl, ap, ◌∙◌, mod-lt, add-mul, one-mul, div-add-mod', arith, lit<, ltb-false, ltb-true, le-ltb, lt-ltb}
+use Rattle.std.proofs.Common.{◌≡◌, ℕ, zero, suc, ◌+◌, ◌-◌, ◌*◌, ◌/◌, ◌%◌, ◌^◌, ◌<◌, ◌≤◌, min, Bool, true, false, cond, T, ltb, ℤ, pos, negsuc, neg_ℤ, ◌-ℤ◌, sym, refl, ap, ◌∙◌, mod-lt, add-mul, one-mul, div-add-mod', le-div_iff_mul-le, arith, lit<, ltb-false, ltb-true, le-ltb, lt-ltb}
 use lib.Pow.{shr_le}
 use lib.IntN.{+ℤ_idl}
 use native.Mathlib.Nat.{div-eq_of_lt, div-eq_of_lt-le}
@@ -12,6 +12,28 @@ use Rattle.base.proofs.Units.{fits-parts}
 use Rattle.base.proofs.Values.{whole-int, lt-whole}
 use Rattle.frames.specs.Frames.{saturate, floor_i64, ceil_i64}
 use Rattle.frames.specs.Parts.{ceil_unsigned}
+
+-- ---- x rounded down
+
+-- x is not above -1: nothing
+pub whole_below : (x : Float) → lt (fin true 1 (pos 0)) x ≡ false → 0 ≡ to_unsigned 64 x
+unfolding lt to_unsigned
+whole_below nan h = refl
+whole_below (inf true) h = refl
+whole_below (inf false) h = cc
+whole_below (fin true m e) h = refl
+whole_below (fin false m e) h = absurd (omega (arith, down_pos e, ltb-false 0 (1 * up (pos 0) * down e + m * up e * down (pos 0)) h))
+
+-- x is above -1, and not below 2 ^ 64: the largest u64
+pub whole_above : (x : Float) → lt (fin true 1 (pos 0)) x ≡ true → lt x (fin false 1 (pos 64)) ≡ false → 2 ^ 64 - 1 ≡ to_unsigned 64 x
+unfolding lt to_unsigned
+whole_above nan l h = cc
+whole_above (inf true) l h = cc
+whole_above (inf false) l h = refl
+whole_above (fin true m e) l h = absurd (omega (arith, down_pos e, ltb-false 0 (m * up e * down (pos 64) + 1 * up (pos 64) * down e) h))
+whole_above (fin false m e) l h =
+    let b : 2 ^ 64 * down e ≤ m * up e = omega (arith, ltb-false (m * up e * down (pos 64)) (1 * up (pos 64) * down e) h) in
+    let q : 2 ^ 64 ≤ m * up e / down e = (le-div_iff_mul-le (down_pos e)).1 b in omega arith
 
 -- ---- x rounded up
 

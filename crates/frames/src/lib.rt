@@ -11,10 +11,10 @@ ghost use Rattle.frames.specs.Parts.{ceil_unsigned};
 use std::num::saturating_f64_to_u64;
 
 // Samples in a second.
-const RATE: f64 = 16000.0;
+pub const RATE: f64 = 16000.0;
 
 // Samples in a frame.
-const HOP: f64 = 160.0;
+const HOP: f64 = base::HOP as f64;
 
 // Where a frame's index is cut: 2^40, high above any audio's frames.
 const CUT: u64 = 0x100_0000_0000;
@@ -26,7 +26,7 @@ fn in_frames(t: f64) -> f64
     (t * RATE) / HOP
 }
 
-// x rounded up, from 0 to 2^64 - 1; from 2^53 on every f64 is a whole number.
+// x rounded up, from 0 to 2^64 - 1; from 2^53 on every f64 is a whole number. By std's ceil it would be slower, as `floor_i64` says.
 fn ceil_whole(x: f64) -> u64
     ensures { result ≡ ceil_unsigned x }
 {
@@ -40,7 +40,7 @@ fn ceil_whole(x: f64) -> u64
     k
 }
 
-// n, or the largest i64 where n is above it: by a branch, for by i64::try_from or min each call of `frame_at` took a fifth longer.
+// n, or the largest i64 where n is above it: by a branch, for by i64::try_from each call of `frame_at` took a fifth longer.
 fn to_i64(n: u64) -> i64
     ensures { result ≡ pos (min n (2 ^ 63 - 1)) }
 {
@@ -127,25 +127,18 @@ fn samples(n: u64) -> f64
     ((n / 0x1_0000_0000 * 160) as f64) * 4294967296.0 + ((n % 0x1_0000_0000 * 160) as f64)
 }
 
-// The time at which frame n starts, in seconds, for every u64.
-pub fn seconds(n: u64) -> f64
-    ensures { result ≡ frame_seconds (pos n) }
-{
-    samples(n) / RATE
-}
-
 // The time at which the frame of an index starts, in seconds.
 pub fn index_seconds(k: usize) -> f64
     ensures { result ≡ frame_seconds (pos k) }
 {
-    seconds(k as u64)
+    samples(k as u64) / RATE
 }
 
 // The time at which frame k starts, in seconds (envelope.rs, frame_seconds).
 pub fn frame_seconds(k: i64) -> f64
     ensures { result ≡ frame_seconds k }
 {
-    let s = seconds(k.unsigned_abs());
+    let s = index_seconds(k.unsigned_abs() as usize);
     if k < 0 {
         return -s;
     }

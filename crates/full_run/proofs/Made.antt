@@ -31,11 +31,6 @@ pub applies-are : (samples : List Float) (ws : Words) (spans : Spans) (phrases :
 unfolding applies_to run_applies
 applies-are samples ws spans phrases ls s e work = refl
 
--- ---- the levels in the first places, and their floor
-pub heard-is : {ls : List Float} {f : Float} (samples places : List Float) → ls ≡ levels samples ++ drop (frames samples) places → f ≡ floor (part 0 (frames samples) ls)
-    → (ls ≡ levels samples ++ drop (frames samples) places) × (f ≡ floor (levels samples))
-heard-is {ls} samples places h e = (h, e ∙ rw (sub-zero, front-levels samples places ls h))
-
 module _ (samples : List Float) (ws : Words) (spans : Spans) (phrases : List ℕ) (places : List Float) (s e : List ℕ) (a b d : ℕ) where
   abbrev given : Input
   given = input samples ws spans phrases places s e (work_places a b d)

@@ -1,6 +1,6 @@
 -- Document 01, "Full run". Assumes nothing.
 use Rattle.base.specs.declared.Refusal.{Refusal}
-use Rattle.std.specs.Prelude.{ℕ, ◌≤◌, min, ◌≡◌, List, ◌++◌, map, length, drop, Float, Ok, Err, Result}
+use Rattle.std.specs.Prelude.{ℕ, ◌≤◌, min, List, ◌++◌, map, length, drop, Float, Ok, Err, Result}
 use Rattle.base.specs.Words.{Words, Spans, count, words_in_places}
 use Rattle.base.specs.Refusals.{Rule}
 use Rattle.limits.specs.declared.Applies.{Applies}
@@ -82,8 +82,3 @@ by_rule (Err r) i = output (Err r) i.words i.phrases i.levels i.piece_starts i.p
 
 unfoldable pub full_run : Input → Output
 full_run i = by_rule (chain (run_applies i)) i
-
--- ---- The work space alone is free, and only after acceptance; a refusal leaves it as it was.
-unfoldable pub Unchanged : {A : Type 0} → Result Report Refusal → List A → List A → Type 0
-Unchanged (Ok r) before after = Unit
-Unchanged (Err r) before after = after ≡ before

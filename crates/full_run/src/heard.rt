@@ -1,6 +1,7 @@
 // A full run on levels that were heard before, by the tests and the stages of `full_run`.
 ghost use Rattle.std.specs.Prelude.{◌≡◌, ◌/◌, length};
-ghost use Rattle.base.specs.Words.{words, spans};
+ghost use Rattle.base.specs.Words.{words};
+ghost use Rattle.base.specs.Spans.{spans_of};
 ghost use Rattle.limits.specs.Order.{chain};
 ghost use Rattle.envelope.specs.Envelope.{floor as floor_of, loud_row, quiet_row};
 ghost use Rattle.full_run.specs.Parts.{applies_to, Heard};
@@ -8,6 +9,8 @@ ghost use Rattle.run_stages.specs.Stages.{run_on};
 
 use super::Report;
 use base::Refusal;
+use base::spans::Spans;
+use base::word_lists::WordLists;
 use envelope::view::Envelope;
 
 // The full run of `count` samples, from their levels; piece places and work places of one kind are equally many.
@@ -19,9 +22,7 @@ pub fn run_heard(
     letters: &mut [u32],
     units: &mut [u32],
     keys: &mut [u32],
-    span_starts: &[f64],
-    span_ends: &[f64],
-    counts: &[u32],
+    spans: Spans<'_>,
     phrases: &mut [u32],
     piece_starts: &mut [usize],
     piece_ends: &mut [usize],
@@ -35,7 +36,7 @@ pub fn run_heard(
         × (length work_letters.old ≡ length work_starts.old))) }
     ensures { let before = words starts.old ends.old letters.old units.old keys.old in
         let after = words starts.new ends.new letters.new units.new keys.new in
-        let all_spans = spans span_starts.now span_ends.now counts.now in
+        let all_spans = spans_of spans.entry in
         let loud_frames = loud_row (floor_of levels.now) levels.now in
         let quiet_frames = quiet_row (floor_of levels.now) levels.now in
         Heard
@@ -49,14 +50,14 @@ pub fn run_heard(
 {
     super::rule::judge(
         count,
-        starts,
-        ends,
-        letters,
-        units,
-        keys,
-        span_starts,
-        span_ends,
-        counts,
+        WordLists {
+            starts,
+            ends,
+            letters,
+            units,
+            keys,
+        },
+        spans,
         phrases.len(),
         levels.len(),
         piece_starts.len(),
@@ -74,9 +75,7 @@ pub fn run_heard(
         letters,
         units,
         keys,
-        span_starts,
-        span_ends,
-        counts,
+        spans,
         phrases,
         piece_starts,
         piece_ends,

@@ -1,11 +1,12 @@
 -- What is written for an answer is what is printed for it. Assumes nothing.
 use Rattle.std.specs.Prelude.{Ok, Err, Result}
-use Prim.Native.Nat.{ℕ, ◌+◌, ◌*◌, ◌≤◌}
-use mathlib.Core.Path.{◌≡◌, ap, ◌∙◌, subst}
-use mathlib.Core.List.{List, ◌++◌}
+use Prim.Native.Nat.{ℕ, zero, suc, ◌+◌, ◌*◌, ◌≤◌}
+use mathlib.Core.Path.{◌≡◌, refl, ap, ◌∙◌, subst}
+use mathlib.Core.List.{List, ◌∷◌, ◌++◌}
 use native.Mathlib.Omega.{arith}
-use lib.ListN.{length, take}
+use lib.ListN.{length, take, replicate}
 use lib.Ieee.{Float}
+use Rattle.base.specs.Loop.{table}
 use Rattle.base.specs.Refusals.{number}
 use Rattle.base.specs.declared.Refusal.{Refusal}
 use Rattle.job_text.specs.Text.{refused_line, piece_lines, word_lines}
@@ -13,6 +14,12 @@ use Rattle.job_text.specs.Parts.{Wrote, NoNans}
 use Rattle.full_run.specs.declared.Report.{Report}
 use Rattle.job.specs.Printed.{answer_text}
 use Rattle.job.specs.Parts.{Printable}
+
+-- ---- places that all hold one value
+pub table_same : {A : Type 0} (v : A) (n i : ℕ) → table (λ (k : ℕ). v) n i ≡ replicate n v
+unfolding table
+table_same v zero i = refl
+table_same v (suc n) i = ap (λ (l : List _). v ∷ l) (table_same v n (suc i))
 
 -- ---- an answer
 module _ (a : Result Report Refusal) (starts ends : List Float) (phrases firsts lasts : List ℕ) (room : ℕ) (ready : Printable a starts ends phrases firsts lasts room) where

@@ -10,12 +10,10 @@ ghost use Rattle.job_text.specs.Text.{refused_line};
 ghost use Rattle.base.specs.Refusals.{number};
 ghost use Rattle.job.specs.Parts.{Printable, Sized, Holding, Whole};
 
-use base::Refusal;
+use base::spans::Spans;
+use base::{HOP, Refusal};
 use full_run::Report;
 use job_layout::{Numbers, SAMPLE, SPAN, TABLE, WORD};
-
-// Samples in a frame.
-const HOP: usize = 160;
 
 // The levels of samples that are given as bytes; the samples themselves are work space.
 pub fn hear(bytes: &[u8], samples: &mut [f32], levels: &mut [f64])
@@ -97,9 +95,11 @@ pub fn answer(
         letters,
         units,
         keys,
-        span_starts,
-        span_ends,
-        counts,
+        Spans {
+            starts: span_starts,
+            ends: span_ends,
+            counts,
+        },
         phrases,
         piece_starts,
         piece_ends,

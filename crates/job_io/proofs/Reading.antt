@@ -19,9 +19,10 @@ use Rattle.job_layout.specs.Layout.{Contents, contents, too_many, gapless, file_
 use Rattle.job_layout.specs.Parts.{plan_of}
 use Rattle.job_layout.specs.declared.Numbers.{Numbers}
 use Rattle.job_layout.proofs.Tables.{holds-within}
-use Rattle.job.specs.Came.{body_size, wanted}
+use Rattle.job.specs.Came.{Came, body_size, wanted}
+use Rattle.job.specs.Printed.{printed}
 use Rattle.job.proofs.Front.{wanted-table, wanted-holds, wanted-breaks}
-use Rattle.job_io.specs.Answers.{EndsIn}
+use Rattle.job_io.specs.Answers.{EndsIn, Answers, Taken}
 use Rattle.job_io.specs.Parts.{Heard, HeardFrom, Follows, FollowsFrom, ReceivedFrom}
 use Rattle.job_io.proofs.Taking.{taken-all, taken-of-all, taken-front, taken-behind}
 
@@ -38,6 +39,24 @@ more-alike x got {sum} {end} e d = go (ltb got 1) refl
     go false h = h ∙ sym (le-ltb sum end (let l = ltb-false got 1 h in omega (arith, l, e, d)))
 
 module _ {count : ℕ} (old mid : Option (List ℕ)) (bodies : List ℕ) {buffer : List ℕ} {ls : List Float} where
+  -- words and spans end too soon
+  pub follows-short : {came : ℕ} {ended : Bool} → ended ≡ true → ended ≡ ltb came (length bodies) → Consumes old mid (take came bodies) → FollowsFrom old mid count came ended bodies buffer ls
+  follows-short {came} ends said takes =
+      let h = ltb-true came (length bodies) (sym said ∙ ends) in
+      record {
+        follows = record {
+          samples = [];
+          more = [];
+          enough = omega arith;
+          few = omega arith;
+          ended_is = ends ∙ sym (lt-ltb came (length bodies + 4 * count + 1) (omega arith));
+          whole-samples = λ e. absurd (omega (arith, e, h));
+          levels-are = λ e. absurd (omega (arith, e, h));
+          last-stretch = λ e. absurd (omega (arith, e, h));
+        };
+        taken = taken-front old mid came bodies ([] ++ []) (omega arith) takes;
+      }
+
   module _ {came heard : ℕ} {over : Bool} (new : Option (List ℕ)) (all : came ≡ length bodies) (takes : Consumes old mid (take came bodies)) (from : HeardFrom mid new count heard over buffer ls) where
     abbrev h : Heard count heard over buffer ls
     h = from.heard
@@ -208,3 +227,12 @@ module _ (old mid : Option (List ℕ)) (t : List ℕ) (long : length t ≡ 24) (
             };
             taken = taken-behind old mid new sum came t (b ++ (f.samples ++ f.more)) (omega arith) (taken-all old mid first t (omega arith) takes) from.taken;
           }
+
+-- ---- and what is printed for it
+pub answers : {old new : Option (List ℕ)} {came r room : ℕ} {ended : Bool} {t bodies buffer text : List ℕ} {ls : List Float} → ReceivedFrom old new came ended t bodies buffer ls
+    → ((file : List ℕ) → Came came t bodies ls file → text ≡ printed file) × (r ≤ room) → Answers came ended t bodies buffer ls text × (r ≤ room)
+answers h (prints, fits) = (record { received = h.received; prints = prints }, fits)
+
+-- ---- a file of which this came is what the reader lost
+pub takes-file : {old new : Option (List ℕ)} {came : ℕ} {ended : Bool} {t bodies buffer : List ℕ} {ls : List Float} → ReceivedFrom old new came ended t bodies buffer ls → Taken old new came t bodies ls
+takes-file h = record { file = h.received.file; parts = h.received.parts; taken = h.taken }

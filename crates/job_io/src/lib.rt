@@ -7,12 +7,11 @@ ghost use Rattle.std.specs.Io.KnownBytes.{Consumes};
 ghost use Rattle.job_io.specs.Answers.{Answers, Replies, Taken};
 ghost use Rattle.job_io.specs.Parts.{heard_stretch, HeardFrom, FollowsFrom, ReceivedFrom};
 
+use base::HOP;
 use job_layout::{Numbers, SAMPLE, SPAN, TABLE, WORD};
 use std::io;
 use std::io::{Read, Write};
 
-// Samples in a frame.
-const HOP: usize = 160;
 // Samples of a stretch: 100 frames.
 const STRETCH: usize = 16000;
 

@@ -4,7 +4,8 @@ use mathlib.Core.List.{List, [], ◌∷◌, ◌++◌, append-nil, append_assoc}
 use mathlib.Core.Path.{◌≡◌, refl, sym, ap, ◌∙◌}
 use native.Mathlib.Omega.{arith}
 use borrow.Author.Tests.{lt-ltb, le-ltb, eq-eqb, ne_eqb}
-use lib.ListN.{take, get_or, length-append}
+use lib.ListN.{length, take, set, get_or, length-append}
+use lib.Seq.{take-suc-set, take-suc, take_all}
 use Rattle.base.specs.Loop.{each}
 use Rattle.base.proofs.Loops.{each_last}
 use lib.Ieee.{Float, nan}
@@ -21,6 +22,33 @@ module _ {a b : List ℕ} {at m r : ℕ} {first second third : List ℕ} where
     end = let l = length-append a b in omega (arith, p.end, q.end, l);
     here = q.here ∙ ap (λ (l : List ℕ). l ++ b) p.here ∙ append_assoc (take at first) a b;
   }
+
+-- ---- a text, byte for byte: so many of its bytes stand from place `at` on
+pub record Copied (text before : List ℕ) (at i : ℕ) (out : List ℕ) : Type 0 where
+  pub here : take (at + i) out ≡ take at before ++ take i text
+
+module _ {text before : List ℕ} {at : ℕ} where
+  -- none of them yet
+  pub copied_none : Copied text before at 0 before
+  copied_none = record { here = let z : at + 0 ≡ at = omega arith in rw z (sym (append-nil (take at before))) }
+
+  -- one byte more
+  pub copied_next : {i : ℕ} {out : List ℕ} (d : ℕ) → Copied text before at i out → at + i < length out → i < length text
+      → Copied text before at (i + 1) (set out (at + i) (get_or text i d))
+  copied_next {i} {out} d p h l = record {
+    here =
+        let a : at + (i + 1) ≡ suc (at + i) = omega arith in
+        let b : i + 1 ≡ suc i = omega arith in
+        rw (a, b, take-suc text i d l) (
+        take-suc-set out (at + i) (get_or text i d) h
+        ∙ ap (λ (l : List ℕ). l ++ (get_or text i d ∷ [])) p.here
+        ∙ append_assoc (take at before) (take i text) (get_or text i d ∷ [])
+        );
+  }
+
+  -- all of them: the text is written
+  pub copied_all : {i : ℕ} {out : List ℕ} → Copied text before at i out → i ≤ length text → length text ≤ i → Wrote text at before out (at + i)
+  copied_all {i} {out} p h l = record { end = omega arith; here = p.here ∙ ap (λ (t : List ℕ). take at before ++ t) (take_all i text l) }
 
 -- ---- a number, digit for digit
 module _ (n most : ℕ) {at : ℕ} {before : List ℕ} where

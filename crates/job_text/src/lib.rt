@@ -1,4 +1,5 @@
-// The lines that the program prints, written into lent places (document 01, "Tally, peak, job file").
+// The lines that the program prints, written into lent places (document 01, "Tally, peak, job file"). Digits and lines are put by hand,
+// for std prints through fmt::Write, whose contract never says that a write succeeds.
 #![tactic(auto)]
 
 ghost use Rattle.std.specs.Prelude.{◌≡◌, not, ◌+◌, ◌*◌, ◌<◌, ◌≤◌, T, length};
@@ -87,7 +88,7 @@ fn put_piece(out: &mut [u8], at: usize, first: usize, end: usize) -> usize
     put_text(out, second, b"\n")
 }
 
-// Writes a phrase number, or `-` where there are no spans.
+// Writes a phrase number, or `-` where there are no spans (an `Option` would be no plainer: one count of spans decides for all words).
 fn put_phrase(out: &mut [u8], at: usize, spans: usize, phrase: u32) -> usize
     requires { at + 20 ≤ length out.old }
     ensures { Wrote (phrase_text spans phrase) at out.old out.new result × (result ≤ at + 20) }

@@ -6,13 +6,9 @@ ghost use Rattle.std.specs.Float.{binary64};
 ghost use Rattle.std.specs.Float.Ieee.{of_bits, lt};
 ghost use Rattle.js.specs.Js.{js_min, js_max, nearest_up, js_to_fixed};
 
-// The bit of the sign.
-const SIGN: u64 = 0x8000_0000_0000_0000;
+use base::{HIDDEN, SIGN};
 
-// The leading digit of a normal number, which its bits leave out.
-const HIDDEN: u64 = 0x10_0000_0000_0000;
-
-// Math.max. Where only a is NaN no test holds, and a is returned.
+// Math.max, by hand: f64::max gives the number beside a NaN, and of two zeros either. Where only a is NaN no test holds, and a is returned.
 pub fn js_max(a: f64, b: f64) -> f64
     ensures { result ≡ js_max a b }
 {

@@ -8,11 +8,9 @@ ghost use Rattle.last_run.specs.LastRun.{back_step, ends_between, frames_of, fra
 ghost use Rattle.last_run.specs.Parts.{ends_of, turn_of, Low, last_frame};
 ghost use Rattle.envelope.specs.Frames.{loud_in};
 
-use base::{Refusal, Times};
+use base::{END_SILENCE, Refusal, Times};
 use envelope::view::Envelope;
 
-// So many quiet frames in a row are bridged; one more, and the run is over.
-const END_SILENCE: usize = 15;
 // The last frame of a run that counts lies so many frames behind the first, or more.
 const MIN_RUN: usize = 3;
 
@@ -23,11 +21,10 @@ pub struct FrameRun {
     pub last: usize,
 }
 
-// A search backwards: the first frame of the run so far, the frame past its last (0: no loud frame was met), and whether it is over.
-#[derive(Drop)]
+// A search backwards: the run so far, if a loud frame was met, and whether it is over.
+#[derive(Clone, Copy)]
 pub struct Search {
-    pub first: usize,
-    pub past: usize,
+    pub run: Option<FrameRun>,
     pub over: bool,
 }
 
@@ -36,16 +33,12 @@ fn at_loud(s: Search, k: usize) -> Search
     requires { (k < 2 ^ 40) × Low s }
     ensures { (turn_of result ≡ back_step true (pos k) (ends_of s)) × Low result }
 {
-    if s.past == 0 {
-        return Search {
-            first: k,
-            past: k + 1,
-            over: false,
-        };
-    }
+    let last = match s.run {
+        None => k,
+        Some(run) => run.last,
+    };
     Search {
-        first: k,
-        past: s.past,
+        run: Some(FrameRun { first: k, last }),
         over: false,
     }
 }
@@ -55,13 +48,12 @@ fn at_quiet(s: Search, k: usize) -> Search
     requires { (s.over ≡ false) × ((k < 2 ^ 40) × Low s) }
     ensures { (turn_of result ≡ back_step false (pos k) (ends_of s)) × Low result }
 {
-    if s.past == 0 {
-        return s;
-    }
-    Search {
-        first: s.first,
-        past: s.past,
-        over: k + END_SILENCE < s.first,
+    match s.run {
+        None => s,
+        Some(run) => Search {
+            run: s.run,
+            over: k + END_SILENCE < run.first,
+        },
     }
 }
 
@@ -82,8 +74,7 @@ fn search_back(e: Envelope<'_>, lo: usize, hi: usize) -> Search
     ensures { (ends_of result ≡ ends_between (loud_in e.entry) (pos lo) (pos hi)) × Low result }
 {
     let mut s = Search {
-        first: 0,
-        past: 0,
+        run: None,
         over: false,
     };
     for k in (lo..hi).rev() {
@@ -100,16 +91,10 @@ pub fn frames_of(s: Search) -> Option<FrameRun>
     requires { Low s }
     ensures { (result ≡ frames_of (ends_of s)) × (last_frame result < 2 ^ 40) }
 {
-    if s.past == 0 {
-        return None;
+    match s.run {
+        Some(run) if run.first + MIN_RUN <= run.last => s.run,
+        _ => None,
     }
-    if s.past - 1 < s.first + MIN_RUN {
-        return None;
-    }
-    Some(FrameRun {
-        first: s.first,
-        last: s.past - 1,
-    })
 }
 
 // The last run of the frames from lo to before hi.

@@ -60,12 +60,15 @@ unfoldable pub any : {A : Type 0} → (A → Bool) → List A → Bool
 any p [] = false
 any p (x ∷ xs) = p x || any p xs
 
--- ---- 1: a time of a word, or of a span, that is not fine.
+-- ---- 1: a start or an end that is not fine: a time of a word, or of a span.
+abbrev pub bad_edges : List Float → List Float → Bool
+bad_edges starts ends = any bad_time starts || any bad_time ends
+
 abbrev pub bad_word_times : List Float → List Float → Bool
-bad_word_times starts ends = any bad_time starts || any bad_time ends
+bad_word_times starts ends = bad_edges starts ends
 
 abbrev pub bad_span_times : List Float → List Float → Bool
-bad_span_times starts ends = any bad_time starts || any bad_time ends
+bad_span_times starts ends = bad_edges starts ends
 
 -- ---- 2: "Letters 1 to 1,000, units 1 to 10,000"
 abbrev pub outside : ℕ → ℕ → ℕ → Bool

@@ -2,7 +2,7 @@
 #![tactic(auto)]
 
 ghost use Rattle.std.specs.Prelude.{◌≡◌};
-ghost use Rattle.limits.specs.Limits.{bad_time, any, bad_word_times, bad_span_times, bad_letters, bad_counts, outside};
+ghost use Rattle.limits.specs.Limits.{bad_time, any, bad_edges, bad_letters, bad_counts, outside};
 ghost use Rattle.limits.specs.Order.{when as when_of, also as also_of, chain as chain_of};
 
 use base::Refusal;
@@ -120,16 +120,9 @@ fn bad_times(list: &[f64]) -> bool
     list.iter().any(|t| times::bad_time(*t))
 }
 
-// A word's time that is not fine (refusal 1).
-pub fn bad_word_times(starts: &[f64], ends: &[f64]) -> bool
-    ensures { result ≡ bad_word_times starts.now ends.now }
-{
-    bad_times(starts) || bad_times(ends)
-}
-
-// A span's time that is not fine (refusal 1).
-pub fn bad_span_times(starts: &[f64], ends: &[f64]) -> bool
-    ensures { result ≡ bad_span_times starts.now ends.now }
+// A start or an end that is not fine, of words or of spans (refusal 1).
+pub fn bad_edges(starts: &[f64], ends: &[f64]) -> bool
+    ensures { result ≡ bad_edges starts.now ends.now }
 {
     bad_times(starts) || bad_times(ends)
 }

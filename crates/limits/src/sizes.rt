@@ -3,6 +3,7 @@ ghost use Rattle.std.specs.Prelude.{◌≡◌};
 ghost use Rattle.limits.specs.Limits.{differ, many as many_of, many_samples, few_places, other_levels};
 
 // More samples than are taken (refusal 4).
+// Kept beside `many`: each promises its own limit, and one function that is handed the limit would promise no more than `<` does.
 pub fn many_samples(n: usize) -> bool
     ensures { result ≡ many_samples n }
 {
@@ -34,5 +35,5 @@ pub fn few_places(places: usize, need: usize) -> bool
 pub fn other_levels(levels: usize, samples: usize) -> bool
     ensures { result ≡ other_levels levels samples }
 {
-    levels != samples / 160
+    levels != samples / base::HOP
 }

@@ -6,7 +6,7 @@ ghost use Rattle.loops.specs.Loops.{same as same_of, is_loop, copies_end};
 ghost use Rattle.loops.specs.Parts.{moved, only_keys, held_keys, goes_on};
 
 // So many equal runs side by side, or more, are a loop.
-const MIN_COPIES: usize = 3;
+pub const MIN_COPIES: usize = 3;
 
 // Whether two runs of n keys are equal.
 fn same(keys: &[u32], n: usize, a: usize, b: usize) -> bool

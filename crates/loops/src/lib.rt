@@ -8,6 +8,7 @@ ghost use Rattle.loops.specs.Loops.{output, collapse_call};
 ghost use Rattle.loops.specs.Parts.{Collapsing};
 
 use base::Refusal;
+use base::word_lists::WordLists;
 
 pub mod copy;
 pub mod pass;
@@ -52,6 +53,13 @@ pub fn collapse_loops(
         let after = words starts.new ends.new letters.new units.new keys.new in
         output result after ≡ collapse_call before }
 {
-    limits::chain(word_calls::of_words(starts, ends, letters, units, keys))?;
+    let words = WordLists {
+        starts,
+        ends,
+        letters,
+        units,
+        keys,
+    };
+    limits::chain(word_calls::of_words(words))?;
     Ok(collapse(starts, ends, letters, units, keys))
 }

@@ -4,10 +4,10 @@ ghost use Rattle.base.specs.Words.{words};
 ghost use Rattle.base.specs.Parts.{OneLength, first_words};
 ghost use Rattle.loops.specs.Parts.{pass_words, loop_words};
 
+use super::copy::MIN_COPIES;
+
 // Runs of 1 to so many words are looked for.
 const MAX_RUN: usize = 4;
-// So many equal runs side by side, or more, are a loop.
-const MIN_COPIES: usize = 3;
 
 // Collapses the loops of n words, of the first `len`, and counts what is left.
 fn collapse_runs(

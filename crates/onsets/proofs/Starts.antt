@@ -5,15 +5,16 @@ use mathlib.Core.Bool.{Bool, true, false, cond}
 use mathlib.Core.List.{List}
 use mathlib.Core.Path.{◌≡◌, refl, sym, ap, ◌∙◌}
 use native.Mathlib.Omega.{arith}
-use borrow.Author.Tests.{leb-true, leb-false, le-leb, lt-leb, ltb-true}
+use borrow.Author.Tests.{lt-ltb, le-ltb, leb-true, leb-false, le-leb, lt-leb, ltb-true}
 use lib.Dec.{leb}
 use lib.IntN.{ℤ, pos, negsuc, pred_ℤ, ◌+ℤ◌, ◌-ℤ◌}
 use lib.Signed.{lt_z}
 use lib.ListN.{get_or, set}
 use lib.Seq.{set-get_or}
-use lib.Ieee.{Float, nan}
+use lib.Ieee.{Float, nan, lt}
 use Rattle.base.specs.Whole.{to_nat, max_z}
 use Rattle.base.specs.Loop.{on, out, run_back}
+use Rattle.base.specs.Floats.{◌⊖◌}
 use Rattle.base.specs.Words.{edges, times, edge_quiet}
 use Rattle.base.specs.declared.Times.{Times}
 use Rattle.base.proofs.Loops.{back-out, back-next, back-stop, back_done, back-nat, max-nat, sub-nat}
@@ -21,7 +22,7 @@ use Rattle.js.specs.Js.{js_min}
 use Rattle.frames.specs.Frames.{frame_at, frame_ceil, frame_seconds}
 use Rattle.envelope.specs.Envelope.{loud}
 use Rattle.envelope.specs.Parts.{Met}
-use Rattle.onsets.specs.Onsets.{Onset, back_turn, onset_frame, onset_of, prev_end, onset_turn}
+use Rattle.onsets.specs.Onsets.{pause, Onset, back_turn, onset_frame, onset_of, prev_end, onset_turn}
 use Rattle.onsets.specs.Parts.{goes_on, onset_seconds}
 
 -- the loop's state above frame k
@@ -184,6 +185,17 @@ module _ (row : List Bool) where
           eo ∙ rw g (frame-nat m (pos lo) ∙ (rw l) ∙ sym (frame-nat m (max_z c (pos m -ℤ pos 60))))
 
 -- ---- one word
+module _ (i : ℕ) (before start : Float) where
+  -- after another word: it goes on where the pause is short
+  pub goes_after : {r : Bool} → 0 < i → r ≡ lt (start ⊖ before) pause → r ≡ goes_on i before start
+  unfolding goes_on
+  goes_after h e = rw (lt-ltb 0 i h, e)
+
+  -- the first word goes on after none
+  pub goes_first : i ≤ 0 → false ≡ goes_on i before start
+  unfolding goes_on
+  goes_first h = rw (le-ltb 0 i h)
+
 -- the end of a word stays
 pub end_stays : (row : List Bool) (i : ℕ) (before : Float) (w : Times) → (onset_of row i before w).end ≡ w.end
 unfolding onset_of goes_on

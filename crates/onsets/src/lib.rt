@@ -8,15 +8,14 @@ ghost use Rattle.onsets.specs.Onsets.{onset_frame, onset_of, prev_end, snap_onse
 ghost use Rattle.onsets.specs.Parts.{onset_seconds, goes_on};
 ghost use Rattle.envelope.specs.Frames.{loud_in};
 
-use base::{Refusal, Times};
+use base::word_lists::WordLists;
+use base::{EDGE_QUIET, Refusal, Times};
 use envelope::view::Envelope;
 
 // From so many seconds on, what lies between two words is a pause.
 const PAUSE: f64 = 0.15;
 // So many frames before its own a start may reach.
 const MAX_BACK: usize = 60;
-// So many quiet frames in a row, 80 ms, end the walk back.
-const EDGE_QUIET: usize = 8;
 
 // So many frames before frame f, but not before frame lo.
 fn frames_back(lo: usize, f: usize, back: usize) -> usize
@@ -77,7 +76,7 @@ fn snap_onset(e: Envelope<'_>, i: usize, prev_end: f64, w: Times) -> Times
     }
 }
 
-// Where the word before word i ends; 0 for the first word.
+// Where the word before word i ends; 0 for the first word, as the Rust has it (an `Option` would be no plainer: the search goes back to that 0).
 #[tactic(auto, unfolding(crate::specs::Onsets::prev_end))]
 fn prev_end_at(ends: &[f64], i: usize) -> f64
     requires { i ≤ length ends.now }
@@ -116,7 +115,17 @@ pub fn snap_onsets(
         let after = words starts.new ends.now letters.now units.now keys.now in
         output result after ≡ onsets_call before e.entry.levels.now e.entry.floor e.entry.count }
 {
-    word_calls::sound_rule(starts, ends, letters, units, keys, e.levels.len(), e.count)?;
+    word_calls::sound_rule(
+        WordLists {
+            starts,
+            ends,
+            letters,
+            units,
+            keys,
+        },
+        e.levels.len(),
+        e.count,
+    )?;
     move_onsets(starts, ends, e);
     Ok(())
 }

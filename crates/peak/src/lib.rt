@@ -9,9 +9,7 @@ ghost use Rattle.base.specs.Refusals.{first};
 ghost use Rattle.peak.specs.Peak.{peak_turn, word_peak, tests, peak_call};
 
 use base::Refusal;
-
-// Samples in a second.
-const RATE: f64 = 16000.0;
+use frames::RATE;
 
 // The largest magnitude of the samples from one to before another (transcriber.rs, peak).
 fn loudest(samples: &[f32], from: usize, to: usize) -> f64
@@ -33,7 +31,7 @@ fn end_index(n: usize, k: i64) -> usize
     n.min(usize::try_from(k).unwrap_or(0))
 }
 
-// The largest magnitude of the samples that a word spans, for any times; 0 / 0, NaN, where it reaches before sample 0 (transcriber.rs, peak).
+// The largest magnitude of the samples that a word spans, for any times; NaN where it reaches before sample 0 (transcriber.rs, peak).
 fn word_peak(samples: &[f32], start: f64, end: f64) -> f64
     ensures { result ≡ word_peak samples.now start end }
 {
@@ -41,7 +39,7 @@ fn word_peak(samples: &[f32], start: f64, end: f64) -> f64
     let to = frames::ceil_i64(end * RATE);
     if from < 0 {
         if from < to {
-            return 0.0 / 0.0;
+            return f64::NAN;
         }
         return 0.0;
     }

@@ -1,7 +1,10 @@
 // Each span takes its words, in place (phrase_align.rs, align_phrases); nothing is checked.
 ghost use Rattle.std.specs.Prelude.{◌≡◌, ◌+◌, ◌-◌, ◌<◌, ◌≤◌, length, replicate};
-ghost use Rattle.base.specs.Words.{spans, with_part};
+ghost use Rattle.base.specs.Words.{with_part};
+ghost use Rattle.base.specs.Spans.{spans_of};
 ghost use Rattle.phrase_align.specs.Parts.{held, held_span, held_spans};
+
+use base::spans::Spans;
 
 // Gives words a to e the phrase number p.
 pub fn number_words(phrases: &mut [u32], a: usize, e: usize, p: u32)
@@ -40,31 +43,29 @@ pub fn place_spans(
     ends: &mut [f64],
     letters: &[u32],
     phrases: &mut [u32],
-    span_starts: &[f64],
-    span_ends: &[f64],
-    counts: &[u32],
+    spans: Spans<'_>,
 ) -> usize
     requires { (length starts.old ≡ length letters.now)
         × ((length ends.old ≡ length letters.now)
         × ((length letters.now ≤ 4096)
         × ((length letters.now ≤ length phrases.old)
-        × ((length span_starts.now ≡ length counts.now)
-        × ((length span_ends.now ≡ length counts.now) × (length counts.now ≤ 4096)))))) }
-    ensures { let all_spans = spans span_starts.now span_ends.now counts.now in
+        × ((length spans.starts.now ≡ length spans.counts.now)
+        × ((length spans.ends.now ≡ length spans.counts.now) × (length spans.counts.now ≤ 4096)))))) }
+    ensures { let all_spans = spans_of spans.entry in
         (held starts.new ends.new phrases.new result
         ≡ held_spans letters.now all_spans (held starts.old ends.old phrases.old 0))
         × (result ≤ length letters.now) }
 {
     let mut at = 0;
-    for p in 0..counts.len() {
-        let e = letters.len().min(at + counts[p] as usize);
+    for p in 0..spans.counts.len() {
+        let e = letters.len().min(at + spans.counts[p] as usize);
         place_span(
             starts,
             ends,
             letters,
             phrases,
-            span_starts[p],
-            span_ends[p],
+            spans.starts[p],
+            spans.ends[p],
             at,
             e,
             p as u32,

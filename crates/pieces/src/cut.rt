@@ -9,7 +9,7 @@ ghost use Rattle.pieces.specs.Parts.{middle, quiet_start, quiet_end, Stands};
 use envelope::view::Envelope;
 
 // The most frames in one piece: 20 s.
-const MAX_FRAMES: usize = 2000;
+pub const MAX_FRAMES: usize = 2000;
 // A cut is searched for in this many frames at the end of a piece: 8 s.
 const SEARCH_FRAMES: usize = 800;
 // A silence this many frames long or longer can hold a cut: 80 ms.
@@ -81,7 +81,8 @@ fn search_run(part: &[f64], floor: f64, q: Quiet) -> Quiet
     }
 }
 
-// The place of a cut in the frames searched; past them where they hold none.
+// The place of a cut in the frames searched; past them where they hold none (an `Option` would be no plainer: the cut then stands at the
+// end, and needs no case).
 fn find_middle(part: &[f64], floor: f64) -> usize
     requires { length part.now ≡ 800 }
     ensures { (result ≡ middle (quiet_row floor part.now)) × (result ≤ 800) }

@@ -8,15 +8,11 @@ ghost use Rattle.pieces.specs.Pieces.{cut, pieces, piece_count, need, tests, out
 ghost use Rattle.pieces.specs.Parts.{starts_over, ends_over};
 ghost use Rattle.envelope.specs.Frames.{quiet_in};
 
-use base::Refusal;
+use base::{HOP, Refusal};
+use cut::MAX_FRAMES;
 use envelope::view::Envelope;
 
 pub mod cut;
-
-// The most frames in one piece: 20 s.
-const MAX_FRAMES: usize = 2000;
-// Samples in a frame.
-const HOP: usize = 160;
 
 // The number of pieces.
 pub fn count_pieces(e: Envelope<'_>) -> usize

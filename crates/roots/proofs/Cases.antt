@@ -25,8 +25,8 @@ at-nan f nan h = refl
 at-nan f (inf s) h = absurd (true≢false (sym h))
 at-nan f (fin s m e) h = absurd (true≢false (sym h))
 
-pub made-nan : div binary64 (of_bits binary64 0) (of_bits binary64 0) ≡ nan
-unfolding div of_bits of_fields odd
+pub made-nan : of_bits binary64 0x7ff8_0000_0000_0000 ≡ nan
+unfolding of_bits of_fields odd
 made-nan = refl
 
 -- ---- the zeros

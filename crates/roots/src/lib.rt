@@ -7,14 +7,12 @@ ghost use Rattle.std.specs.Float.Ieee.{of_bits};
 ghost use Rattle.roots.specs.Parts.{Search, Found, Rooted};
 ghost use Rattle.roots.specs.Sqrt.{near_root, round_root, sqrt as sqrt_of};
 
-// 2^52: the leading digit of a normal number, which its bits leave out
-const HIDDEN: u64 = 0x10_0000_0000_0000;
+use base::{HIDDEN, SIGN};
+
 // the bits of +infinity
 const INFINITY: u64 = 0x7ff0_0000_0000_0000;
 // the bits of 2^52
 const WHOLES: u64 = 0x4330_0000_0000_0000;
-// the sign's bit
-const SIGN: u64 = 0x8000_0000_0000_0000;
 
 // √(a * 2^52) to the nearest, digit by digit between q0 and q0 + w0: the square root by hand, in binary.
 fn refine(a: u64, q0: u64, r0: u64, w0: u64, j0: u64) -> u64
@@ -183,7 +181,7 @@ pub fn sqrt(x: f64) -> f64
         return x;
     }
     if b > SIGN {
-        return 0.0 / 0.0;
+        return f64::NAN;
     }
     if b >= INFINITY {
         return x;

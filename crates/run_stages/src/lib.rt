@@ -2,13 +2,15 @@
 #![tactic(auto)]
 
 ghost use Rattle.std.specs.Prelude.{◌≡◌, length};
-ghost use Rattle.base.specs.Words.{words, spans};
+ghost use Rattle.base.specs.Words.{words};
+ghost use Rattle.base.specs.Spans.{spans_of};
 ghost use Rattle.pieces.specs.Pieces.{Ready as PiecesReady};
 ghost use Rattle.loops.specs.Loops.{collapse_loops};
 ghost use Rattle.run_stages.specs.Stages.{snapped, settled, run_on};
 ghost use Rattle.run_stages.specs.Parts.{Ready, FewLetters, Settling, Running};
 ghost use Rattle.envelope.specs.Frames.{loud_in, quiet_in};
 
+use base::spans::Spans;
 use envelope::view::Envelope;
 use loops::Left;
 
@@ -31,9 +33,7 @@ fn run_on_words(
     units: &mut [u32],
     keys: &mut [u32],
     phrases: &mut [u32],
-    span_starts: &[f64],
-    span_ends: &[f64],
-    counts: &[u32],
+    spans: Spans<'_>,
     e: Envelope<'_>,
     duration: f64,
     work_starts: &mut [f64],
@@ -41,13 +41,13 @@ fn run_on_words(
     work_letters: &mut [u32],
 ) -> Left
     requires { Ready (words starts.old ends.old letters.old units.old keys.old)
-        (spans span_starts.now span_ends.now counts.now) (length phrases.old)
+        (spans_of spans) (length phrases.old)
         (length e.levels.now) (length work_starts.old) (length work_ends.old)
         (length work_letters.old)
         × FewLetters letters.old }
     ensures { let before = words starts.old ends.old letters.old units.old keys.old in
         let after = words starts.new ends.new letters.new units.new keys.new in
-        let all_spans = spans span_starts.now span_ends.now counts.now in
+        let all_spans = spans_of spans.entry in
         let loud_frames = loud_in e.entry in
         Settling
         (settled loud_frames duration all_spans phrases.old (snapped loud_frames duration (collapse_loops before).words))
@@ -63,9 +63,7 @@ fn run_on_words(
         &mut units[0..n],
         &mut keys[0..n],
         phrases,
-        span_starts,
-        span_ends,
-        counts,
+        spans,
         e,
         duration,
         work_starts,
@@ -86,9 +84,7 @@ pub fn after_levels(
     letters: &mut [u32],
     units: &mut [u32],
     keys: &mut [u32],
-    span_starts: &[f64],
-    span_ends: &[f64],
-    counts: &[u32],
+    spans: Spans<'_>,
     phrases: &mut [u32],
     piece_starts: &mut [usize],
     piece_ends: &mut [usize],
@@ -97,14 +93,14 @@ pub fn after_levels(
     work_letters: &mut [u32],
 ) -> Outcome
     requires { Ready (words starts.old ends.old letters.old units.old keys.old)
-        (spans span_starts.now span_ends.now counts.now) (length phrases.old)
+        (spans_of spans) (length phrases.old)
         (length e.levels.now) (length work_starts.old) (length work_ends.old)
         (length work_letters.old)
         × (FewLetters letters.old
         × PiecesReady (length e.levels.now) e.count (length piece_starts.old) (length piece_ends.old)) }
     ensures { let before = words starts.old ends.old letters.old units.old keys.old in
         let after = words starts.new ends.new letters.new units.new keys.new in
-        let all_spans = spans span_starts.now span_ends.now counts.now in
+        let all_spans = spans_of spans.entry in
         let loud_frames = loud_in e.entry in
         let quiet_frames = quiet_in e.entry in
         Running (run_on loud_frames quiet_frames e.entry.count all_spans phrases.old before)
@@ -120,9 +116,7 @@ pub fn after_levels(
         units,
         keys,
         phrases,
-        span_starts,
-        span_ends,
-        counts,
+        spans,
         e,
         fit_file::duration_of(e.count),
         work_starts,

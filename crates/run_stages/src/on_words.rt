@@ -1,10 +1,12 @@
 // The stages of a full run on the words that loops left (document 01, "Full run"); nothing is checked.
 ghost use Rattle.std.specs.Prelude.{length};
-ghost use Rattle.base.specs.Words.{words, spans};
+ghost use Rattle.base.specs.Words.{words};
+ghost use Rattle.base.specs.Spans.{spans_of};
 ghost use Rattle.run_stages.specs.Stages.{snapped, by_phrase, settled};
 ghost use Rattle.run_stages.specs.Parts.{Ready, FewLetters, Settling};
 ghost use Rattle.envelope.specs.Frames.{loud_in};
 
+use base::spans::Spans;
 use envelope::view::Envelope;
 
 // Placing, then the fit by phrase; gives back how many words are left.
@@ -15,9 +17,7 @@ fn place_and_fit(
     units: &mut [u32],
     keys: &mut [u32],
     phrases: &mut [u32],
-    span_starts: &[f64],
-    span_ends: &[f64],
-    counts: &[u32],
+    spans: Spans<'_>,
     e: Envelope<'_>,
     duration: f64,
     work_starts: &mut [f64],
@@ -25,33 +25,23 @@ fn place_and_fit(
     work_letters: &mut [u32],
 ) -> usize
     requires { Ready (words starts.old ends.old letters.old units.old keys.old)
-        (spans span_starts.now span_ends.now counts.now) (length phrases.old)
+        (spans_of spans) (length phrases.old)
         (length e.levels.now) (length work_starts.old) (length work_ends.old)
         (length work_letters.old) }
     ensures { let before = words starts.old ends.old letters.old units.old keys.old in
         let after = words starts.new ends.new letters.new units.new keys.new in
-        let all_spans = spans span_starts.now span_ends.now counts.now in
+        let all_spans = spans_of spans.entry in
         let loud_frames = loud_in e.entry in
         Settling (by_phrase loud_frames duration all_spans phrases.old before) (length keys.old) result after phrases.new }
 {
-    let n = phrase_align::place_words(
-        starts,
-        ends,
-        letters,
-        units,
-        keys,
-        phrases,
-        span_starts,
-        span_ends,
-        counts,
-    );
+    let n = phrase_align::place_words(starts, ends, letters, units, keys, phrases, spans);
     fit_file::each_phrase::fit_phrases(
         &mut starts[0..n],
         &mut ends[0..n],
         &letters[0..n],
         &phrases[0..n],
-        span_starts,
-        span_ends,
+        spans.starts,
+        spans.ends,
         e,
         duration,
         work_starts,
@@ -69,9 +59,7 @@ pub fn time_words(
     units: &mut [u32],
     keys: &mut [u32],
     phrases: &mut [u32],
-    span_starts: &[f64],
-    span_ends: &[f64],
-    counts: &[u32],
+    spans: Spans<'_>,
     e: Envelope<'_>,
     duration: f64,
     work_starts: &mut [f64],
@@ -79,20 +67,20 @@ pub fn time_words(
     work_letters: &mut [u32],
 ) -> usize
     requires { Ready (words starts.old ends.old letters.old units.old keys.old)
-        (spans span_starts.now span_ends.now counts.now) (length phrases.old)
+        (spans_of spans) (length phrases.old)
         (length e.levels.now) (length work_starts.old) (length work_ends.old)
         (length work_letters.old)
         × FewLetters letters.old }
     ensures { let before = words starts.old ends.old letters.old units.old keys.old in
         let after = words starts.new ends.new letters.new units.new keys.new in
-        let all_spans = spans span_starts.now span_ends.now counts.now in
+        let all_spans = spans_of spans.entry in
         let loud_frames = loud_in e.entry in
         Settling
         (settled loud_frames duration all_spans phrases.old (snapped loud_frames duration before))
         (length keys.old) result after phrases.new }
 {
     super::snap::snap(starts, ends, letters, units, e, duration);
-    if span_starts.len() == 0 {
+    if spans.starts.len() == 0 {
         fit_to_sound::fit_words(starts, ends, letters, e, duration);
         return keys.len();
     }
@@ -103,9 +91,7 @@ pub fn time_words(
         units,
         keys,
         phrases,
-        span_starts,
-        span_ends,
-        counts,
+        spans,
         e,
         duration,
         work_starts,

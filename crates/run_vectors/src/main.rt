@@ -26,19 +26,12 @@
 
 ghost use Rattle.std.specs.Prelude.{◌≤◌};
 
+use base::HOP;
+use base::spans::Spans;
 use std::num::f64_to_bits_with_nan;
 use std::{array, io};
-use vector_rows::numbers::{digits, is_loud};
+use vector_rows::numbers::{DURATION, SAMPLES, digits, is_loud};
 use vector_rows::rows::{RowKind, replay};
-
-// Samples in a frame.
-const HOP: usize = 160;
-
-// Samples of a recording: 64 frames.
-const SAMPLES: usize = 10240;
-
-// How long it is, in seconds; the second span ends there.
-const DURATION: f64 = 0.64;
 
 // What a row asks for.
 #[derive(Clone, Copy, Debug, PartialEq, Eq)]
@@ -93,7 +86,7 @@ fn time(digit: u32) -> f64 {
     f64::from(digit) / 20.0
 }
 
-// The samples of a recording, of which the first is no number where the digit says so.
+// The samples of a recording, of which the first is no number where the row's digit says so.
 fn samples(recording: u64, first: u32) -> [f32; SAMPLES] {
     let mut samples = array::from_fn(|i| if is_loud(recording, i / HOP) {
         0.5
@@ -130,7 +123,7 @@ impl Folded {
         }
     }
 
-    // The same for a list of doubles.
+    // The same for a list of doubles. Kept beside `numbers`: with one for both, each of the seven calls would turn its list into bits first.
     fn times(&mut self, list: &[f64]) {
         for x in list {
             self.time(*x);
@@ -166,9 +159,11 @@ fn run(samples: &[f32; SAMPLES], digits: &[u32; 16], words: usize, spans: usize)
         &mut letters[..words],
         &mut units[..words],
         &mut keys[..words],
-        &span_starts[..spans],
-        &span_ends[..spans],
-        &counts[..spans],
+        Spans {
+            starts: &span_starts[..spans],
+            ends: &span_ends[..spans],
+            counts: &counts[..spans],
+        },
         &mut phrases,
         &mut levels,
         &mut piece_starts,

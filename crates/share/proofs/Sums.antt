@@ -4,11 +4,15 @@ use mathlib.Core.Path.{◌≡◌, refl, ◌∙◌}
 use mathlib.Core.List.{List, [], ◌∷◌}
 use native.Mathlib.Nat.{zero-add}
 use native.Mathlib.Omega.{arith}
-use lib.ListN.{length, take, get_or}
+use lib.ListN.{length, take, drop, get_or}
 use Rattle.std.specs.List.{sum as sum_all}
 use Rattle.base.specs.Loop.{fold}
-use Rattle.base.proofs.Loops.{fold-is}
+use Rattle.base.proofs.Loops.{fold-is, fold_done}
 use Rattle.share.specs.Share.{sum}
+
+-- ---- past the last letter, the sum so far is the sum
+pub sum_done : (letters : List ℕ) (n i : ℕ) → length letters ≤ i → fold ◌+◌ n (drop i letters) ≡ n
+sum_done letters n i h = fold_done ◌+◌ letters i n h
 
 -- ---- the first letters apart
 fold-plus : (n : ℕ) (letters : List ℕ) → fold ◌+◌ n letters ≡ n + fold ◌+◌ 0 letters

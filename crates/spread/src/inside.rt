@@ -1,5 +1,5 @@
 // Whether a word is inside its span, and the first and the last word inside (phrase_align.rs, align_phrases).
-ghost use Rattle.std.specs.Prelude.{◌≡◌, ◌+◌, ◌<◌, ◌≤◌, length};
+ghost use Rattle.std.specs.Prelude.{◌≡◌, ◌<◌, ◌≤◌, length, unwrap_or, IfSome};
 ghost use Rattle.base.specs.Words.{edges, times_at};
 ghost use Rattle.spread.specs.Spread.{inside, first_inside, last_inside};
 
@@ -29,15 +29,12 @@ pub fn inside_at(starts: &[f64], ends: &[f64], from: f64, to: f64, i: usize) -> 
     is_inside(from, to, w)
 }
 
-// The first word inside, or the number of words.
-pub fn first_inside(starts: &[f64], ends: &[f64], from: f64, to: f64) -> usize
+// The first word inside, if there is one.
+pub fn first_inside(starts: &[f64], ends: &[f64], from: f64, to: f64) -> Option<usize>
     requires { length ends.now ≡ length starts.now }
-    ensures { (result ≡ first_inside from to (edges starts.now ends.now)) × (result ≤ length starts.now) }
+    ensures { (unwrap_or result (length starts.now) ≡ first_inside from to (edges starts.now ends.now)) × IfSome result (λ i. i < length starts.now) }
 {
-    let count = starts.len();
-    (0..count)
-        .find(|&i| inside_at(starts, ends, from, to, i))
-        .unwrap_or(count)
+    (0..starts.len()).find(|&i| inside_at(starts, ends, from, to, i))
 }
 
 // The last word inside; some word is.

@@ -70,10 +70,8 @@ pub fn place_group(starts: &mut [f64], ends: &mut [f64], letters: &[u32], from: 
         let after = edges starts.new ends.new in
         after ≡ place_group letters.now from to before }
 {
-    let first = inside::first_inside(starts, ends, from, to);
-    if first < letters.len() {
-        place_around(starts, ends, letters, from, to, first);
-    } else {
-        by_letters::spread(starts, ends, letters, from, to);
+    match inside::first_inside(starts, ends, from, to) {
+        Some(first) => place_around(starts, ends, letters, from, to, first),
+        None => by_letters::spread(starts, ends, letters, from, to),
     }
 }

@@ -7,6 +7,7 @@ ghost use Rattle.word_calls.specs.Calls.{output};
 ghost use Rattle.tails.specs.Tails.{hand_back_tails, tails_call};
 ghost use Rattle.envelope.specs.Frames.{loud_in};
 
+use base::word_lists::WordLists;
 use base::{Refusal, Times};
 use envelope::view::Envelope;
 use one_word::Neighbours;
@@ -52,7 +53,17 @@ pub fn hand_back_tails(
         let after = words starts.new ends.new letters.now units.now keys.now in
         output result after ≡ tails_call before e.entry.levels.now e.entry.floor e.entry.count }
 {
-    word_calls::sound_rule(starts, ends, letters, units, keys, e.levels.len(), e.count)?;
+    word_calls::sound_rule(
+        WordLists {
+            starts,
+            ends,
+            letters,
+            units,
+            keys,
+        },
+        e.levels.len(),
+        e.count,
+    )?;
     move_tails(starts, ends, letters, e);
     Ok(())
 }

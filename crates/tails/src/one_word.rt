@@ -7,17 +7,11 @@ ghost use Rattle.tails.specs.Tails.{min_letter, hand_back};
 ghost use Rattle.tails.specs.Parts.{across as across_at, lands as lands_at, below, three};
 ghost use Rattle.envelope.specs.Frames.{loud_in};
 
-use base::Times;
+use base::{EDGE_QUIET, LOOSE, MIN_LETTER, Times};
 use envelope::view::Envelope;
 
-// A start so many seconds or more after the word before ends lies on no tail.
-const LOOSE: f64 = 0.05;
-// What one letter takes to say, in seconds, at the least.
-const MIN_LETTER: f64 = 0.05;
 // No word's letters need a sound of so many frames: 1,000 letters need 50 s.
 const MAX_TAIL: usize = 5001;
-// So many quiet frames in a row, 80 ms, end a tail.
-const EDGE_QUIET: usize = 8;
 // So many loud frames in a row, 30 ms, are a word's own sound.
 const MIN_RUN: usize = 3;
 

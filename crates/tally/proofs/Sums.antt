@@ -62,6 +62,10 @@ module _ (n : ℕ) (places : List ℕ) {now : List ℕ} (is : now ≡ zeros n ++
   pub zeros-room : n ≤ length now
   zeros-room = rw (is, length-append (zeros n) (drop n places), long) (omega arith)
 
+-- ---- place k made zero
+unfoldable pub zero_at : ℕ → List ℕ → List ℕ
+zero_at k places = set places k 0
+
 -- ---- so many equal values are so many zeros
 all_zero : (n i : ℕ) → replicate {A = ℕ} n 0 ≡ table (λ (_ : ℕ). 0) n i
 unfolding table

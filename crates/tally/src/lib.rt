@@ -2,11 +2,14 @@
 #![tactic(auto)]
 
 ghost use Rattle.std.specs.Prelude.{◌≡◌, ◌++◌, ◌<◌, ◌≤◌, ◌^◌, length, get_or, take, drop};
-ghost use Rattle.base.specs.Words.{words, spans, edges};
+ghost use Rattle.base.specs.Words.{words, edges};
+ghost use Rattle.base.specs.Spans.{spans_of};
 ghost use Rattle.tally.specs.Tally.{loud_under, tallies, output, tally_call};
 ghost use Rattle.tally.specs.Parts.{loud_between, added_at, zeros};
 ghost use Rattle.envelope.specs.Frames.{loud_in};
 
+use base::spans::Spans;
+use base::word_lists::WordLists;
 use base::{Refusal, Times};
 use envelope::view::Envelope;
 
@@ -90,32 +93,30 @@ pub fn tally(
     units: &[u32],
     keys: &[u32],
     phrases: &[u32],
-    span_starts: &[f64],
-    span_ends: &[f64],
-    counts: &[u32],
+    spans: Spans<'_>,
     places: &mut [usize],
 ) -> Result<(), Refusal>
     ensures { let before = words starts.now ends.now letters.now units.now keys.now in
-        let all_spans = spans span_starts.now span_ends.now counts.now in
+        let all_spans = spans_of spans.entry in
         output result places.new
         ≡ tally_call before phrases.now all_spans e.entry.levels.now e.entry.floor e.entry.count places.old }
 {
     word_calls::phrases_rule(
-        starts,
-        ends,
-        letters,
-        units,
-        keys,
+        WordLists {
+            starts,
+            ends,
+            letters,
+            units,
+            keys,
+        },
         phrases.len(),
-        span_starts,
-        span_ends,
-        counts,
+        spans,
         e.levels.len(),
         e.count,
         places.len(),
-        span_starts.len(),
+        spans.starts.len(),
     )?;
-    clear_places(places, span_starts.len());
-    add_words(e, starts, ends, phrases, span_starts.len(), places);
+    clear_places(places, spans.starts.len());
+    add_words(e, starts, ends, phrases, spans.starts.len(), places);
     Ok(())
 }

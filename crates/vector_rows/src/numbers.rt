@@ -7,7 +7,16 @@ ghost use Rattle.vector_rows.specs.Numbers.{digit_value, number_of, digit_at, is
 use std::array;
 use std::num::{f64_from_bits_with_nan, f64_to_bits_with_nan};
 
-// The value of an upper-case hexadecimal digit.
+// Samples of the recording of a row: 64 frames.
+pub const SAMPLES: usize = 10240;
+
+// How long it is, in seconds.
+pub const DURATION: f64 = 0.64;
+
+// A frame above this level is loud.
+pub const FLOOR: f64 = 0.5;
+
+// The value of an upper-case hexadecimal digit; std's readers of digits take small letters too.
 fn digit(c: u8) -> Option<u64>
     ensures value { result ≡ digit_value c }
     ensures bound { IfSome result (λ d. d < 16) }
@@ -19,7 +28,7 @@ fn digit(c: u8) -> Option<u64>
     }
 }
 
-// The number that a text of digits is, the highest first.
+// The number that a text of such digits is, the highest first.
 pub fn number(text: &[u8]) -> Option<u64>
     requires { length text.now ≤ 16 }
     ensures { result ≡ number_of text.now }

@@ -86,6 +86,7 @@ fn judge<K: RowKind>(kinds: &[K], row: &[u8; ROW]) -> Option<(usize, bool)>
     let place = kinds.iter().position(|kind| kind.letter() == row[0])?;
     let kind = kinds[place];
     let a = number(&row[2..18])?;
+    // 0 where the kind has no second number: it then reads none, so an `Option` would be no plainer.
     let b = if kind.has_second() {
         number(&row[19..35])?
     } else {

@@ -15,20 +15,15 @@
 //       that the output shows that a wrong answer is seen
 #![tactic(auto)]
 
+use base::HOP;
 use envelope::view::Envelope;
 use std::io;
 use std::num::f64_from_bits_with_nan as float;
-use vector_rows::numbers::has_bits;
+use vector_rows::numbers::{FLOOR, has_bits};
 use vector_rows::rows::{RowKind, replay};
 
 // The most frames of a row of pieces.
 const FRAMES: usize = 2048;
-
-// Samples in a frame.
-const HOP: usize = 160;
-
-// A frame above this level is loud.
-const FLOOR: f64 = 0.5;
 
 // What a row asks for.
 #[derive(Clone, Copy, Debug, PartialEq, Eq)]

@@ -1,3 +1,4 @@
 -- Laws of the calls on words.
 pub mod Within
+pub mod Differ
 pub mod Moved

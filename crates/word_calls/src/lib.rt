@@ -1,45 +1,44 @@
 // What calls on words test: which refusals apply, and the first of them.
 #![tactic(auto)]
 
-ghost use Rattle.std.specs.Prelude.{◌≡◌};
-ghost use Rattle.base.specs.Words.{words, spans};
-ghost use Rattle.word_calls.specs.Calls.{uneven, of_words, of_samples, of_levels, of_time, of_limit, uneven_spans, many_spans, of_spans, of_places, of_list};
+ghost use Rattle.std.specs.Prelude.{◌≡◌, ℕ};
+ghost use Rattle.base.specs.WordLists.{words_of};
+ghost use Rattle.base.specs.Spans.{spans_of};
+ghost use Rattle.limits.specs.Limits.{any, differ};
+ghost use Rattle.word_calls.specs.Calls.{of_words, of_samples, of_levels, of_time, of_limit, many_spans, of_spans, of_places, of_list};
 ghost use Rattle.word_calls.specs.Calls.{sound_rule, timed_rule, limit_rule, spans_rule, phrases_rule};
 
 use base::Refusal;
+use base::spans::Spans;
+use base::word_lists::WordLists;
 use limits::Applies;
 
-// Whether one of a word's five lists is not as long as the starts (refusal 3).
-#[tactic(auto, unfolding(crate::specs::Calls::uneven))]
-fn lists_differ(starts: usize, ends: usize, letters: usize, units: usize, keys: usize) -> bool
-    ensures { result ≡ uneven starts ends letters units keys }
+// Whether another of the lists is not as long as the starts (refusal 3).
+fn lists_differ(starts: usize, others: &[usize]) -> bool
+    ensures { result ≡ any (λ (n : ℕ). differ n starts) others.now }
 {
-    limits::sizes::differ_in_length(ends, starts)
-        || limits::sizes::differ_in_length(letters, starts)
-        || limits::sizes::differ_in_length(units, starts)
-        || limits::sizes::differ_in_length(keys, starts)
+    others
+        .iter()
+        .any(|n| limits::sizes::differ_in_length(*n, starts))
 }
 
 // What applies of a word list: 3, 4, 1, 2.
-pub fn of_words(
-    starts: &[f64],
-    ends: &[f64],
-    letters: &[u32],
-    units: &[u32],
-    keys: &[u32],
-) -> Applies
-    ensures { result ≡ of_words (words starts.now ends.now letters.now units.now keys.now) }
+pub fn of_words(words: WordLists<'_>) -> Applies
+    ensures { result ≡ of_words (words_of words.entry) }
 {
-    let uneven = lists_differ(
-        starts.len(),
-        ends.len(),
-        letters.len(),
-        units.len(),
-        keys.len(),
+    let others = [
+        words.ends.len(),
+        words.letters.len(),
+        words.units.len(),
+        words.keys.len(),
+    ];
+    let uneven = lists_differ(words.starts.len(), &others);
+    let times = limits::when(limits::bad_edges(words.starts, words.ends), Refusal::Time);
+    let letters = limits::when(
+        limits::bad_letters(words.letters, words.units),
+        Refusal::Letters,
     );
-    let times = limits::when(limits::bad_word_times(starts, ends), Refusal::Time);
-    let letters = limits::when(limits::bad_letters(letters, units), Refusal::Letters);
-    let counts = limits::when(limits::sizes::many(starts.len()), Refusal::Counts);
+    let counts = limits::when(limits::sizes::many(words.starts.len()), Refusal::Counts);
     limits::also(
         limits::when(uneven, Refusal::Lengths),
         limits::also(counts, limits::also(times, letters)),
@@ -75,28 +74,20 @@ pub fn of_limit(t: f64) -> Applies
     limits::when(limits::times::bad_limit(t), Refusal::Time)
 }
 
-// Whether one of a span's three lists is not as long as the starts (refusal 3).
-fn span_lists_differ(starts: usize, ends: usize, counts: usize) -> bool
-    ensures { result ≡ uneven_spans starts ends counts }
-{
-    let ends_differ = limits::sizes::differ_in_length(ends, starts);
-    ends_differ | limits::sizes::differ_in_length(counts, starts)
-}
-
 // Too many spans, or too large a span count (refusal 4).
-fn many_spans(starts: &[f64], ends: &[f64], counts: &[u32]) -> bool
-    ensures { result ≡ many_spans (spans starts.now ends.now counts.now) }
+fn many_spans(spans: Spans<'_>) -> bool
+    ensures { result ≡ many_spans (spans_of spans.entry) }
 {
-    limits::sizes::many(starts.len()) | limits::bad_counts(counts)
+    limits::sizes::many(spans.starts.len()) | limits::bad_counts(spans.counts)
 }
 
 // What applies of a list of spans: 3, 4, 1.
-pub fn of_spans(starts: &[f64], ends: &[f64], counts: &[u32]) -> Applies
-    ensures { result ≡ of_spans (spans starts.now ends.now counts.now) }
+pub fn of_spans(spans: Spans<'_>) -> Applies
+    ensures { result ≡ of_spans (spans_of spans.entry) }
 {
-    let uneven = span_lists_differ(starts.len(), ends.len(), counts.len());
-    let times = limits::when(limits::bad_span_times(starts, ends), Refusal::Time);
-    let many = limits::when(many_spans(starts, ends, counts), Refusal::Counts);
+    let uneven = lists_differ(spans.starts.len(), &[spans.ends.len(), spans.counts.len()]);
+    let times = limits::when(limits::bad_edges(spans.starts, spans.ends), Refusal::Time);
+    let many = limits::when(many_spans(spans), Refusal::Counts);
     limits::also(
         limits::when(uneven, Refusal::Lengths),
         limits::also(many, times),
@@ -121,107 +112,70 @@ pub fn of_list(list: usize, words: usize) -> Applies
 }
 
 // What the tests find of a stage on sound: 3, 4, 1, 2, 7.
-pub fn sound_rule(
-    starts: &[f64],
-    ends: &[f64],
-    letters: &[u32],
-    units: &[u32],
-    keys: &[u32],
-    levels: usize,
-    samples: usize,
-) -> Result<(), Refusal>
-    ensures { let before = words starts.now ends.now letters.now units.now keys.now in
+pub fn sound_rule(words: WordLists<'_>, levels: usize, samples: usize) -> Result<(), Refusal>
+    ensures { let before = words_of words.entry in
         result ≡ sound_rule before levels samples }
 {
-    let a = of_words(starts, ends, letters, units, keys);
+    let a = of_words(words);
     limits::chain(limits::also(a, of_levels(levels, samples)))
 }
 
 // What the tests find of a stage on sound that takes a duration: 3, 4, 1, 2, 7.
 pub fn timed_rule(
-    starts: &[f64],
-    ends: &[f64],
-    letters: &[u32],
-    units: &[u32],
-    keys: &[u32],
+    words: WordLists<'_>,
     levels: usize,
     samples: usize,
     duration: f64,
 ) -> Result<(), Refusal>
-    ensures { let before = words starts.now ends.now letters.now units.now keys.now in
+    ensures { let before = words_of words.entry in
         result ≡ timed_rule before levels samples duration }
 {
-    let a = of_words(starts, ends, letters, units, keys);
+    let a = of_words(words);
     let b = limits::also(a, of_levels(levels, samples));
     limits::chain(limits::also(b, of_time(duration)))
 }
 
 // What the tests find of words and a limit for evening: 3, 4, 1, 2.
-pub fn limit_rule(
-    starts: &[f64],
-    ends: &[f64],
-    letters: &[u32],
-    units: &[u32],
-    keys: &[u32],
-    limit: f64,
-) -> Result<(), Refusal>
-    ensures { let before = words starts.now ends.now letters.now units.now keys.now in
+pub fn limit_rule(words: WordLists<'_>, limit: f64) -> Result<(), Refusal>
+    ensures { let before = words_of words.entry in
         result ≡ limit_rule before limit }
 {
-    let a = of_words(starts, ends, letters, units, keys);
+    let a = of_words(words);
     limits::chain(limits::also(a, of_limit(limit)))
 }
 
 // What the tests find of words, spans, and so many places where so many are needed: 3, 4, 1, 2, 6.
 pub fn spans_rule(
-    starts: &[f64],
-    ends: &[f64],
-    letters: &[u32],
-    units: &[u32],
-    keys: &[u32],
-    span_starts: &[f64],
-    span_ends: &[f64],
-    counts: &[u32],
+    words: WordLists<'_>,
+    spans: Spans<'_>,
     places: usize,
     need: usize,
 ) -> Result<(), Refusal>
-    ensures { let before = words starts.now ends.now letters.now units.now keys.now in
-        let all_spans = spans span_starts.now span_ends.now counts.now in
+    ensures { let before = words_of words.entry in
+        let all_spans = spans_of spans.entry in
         result ≡ spans_rule before all_spans places need }
 {
-    let a = of_words(starts, ends, letters, units, keys);
-    let b = limits::also(
-        of_spans(span_starts, span_ends, counts),
-        of_places(places, need),
-    );
+    let a = of_words(words);
+    let b = limits::also(of_spans(spans), of_places(places, need));
     limits::chain(limits::also(a, b))
 }
 
 // What the tests find of words in phrases, spans, levels, and so many places where so many are needed: 3, 4, 1, 2, 7, 6.
 pub fn phrases_rule(
-    starts: &[f64],
-    ends: &[f64],
-    letters: &[u32],
-    units: &[u32],
-    keys: &[u32],
+    words: WordLists<'_>,
     phrases: usize,
-    span_starts: &[f64],
-    span_ends: &[f64],
-    counts: &[u32],
+    spans: Spans<'_>,
     levels: usize,
     samples: usize,
     places: usize,
     need: usize,
 ) -> Result<(), Refusal>
-    ensures { let before = words starts.now ends.now letters.now units.now keys.now in
-        let all_spans = spans span_starts.now span_ends.now counts.now in
+    ensures { let before = words_of words.entry in
+        let all_spans = spans_of spans.entry in
         result ≡ phrases_rule before phrases all_spans levels samples places need }
 {
-    let a = of_words(starts, ends, letters, units, keys);
+    let a = of_words(words);
     let b = limits::also(a, of_levels(levels, samples));
-    let d = limits::also(
-        of_spans(span_starts, span_ends, counts),
-        of_places(places, need),
-    );
-    limits::chain(limits::also(b, limits::also(of_list(phrases, starts.len()), d)))
+    let d = limits::also(of_spans(spans), of_places(places, need));
+    limits::chain(limits::also(b, limits::also(of_list(phrases, words.starts.len()), d)))
 }

@@ -35,21 +35,13 @@
 ghost use Rattle.std.specs.Prelude.{◌≤◌};
 ghost use Rattle.word_vectors.specs.declared.TheConstants.{TIMED};
 
+use base::spans::Spans;
 use envelope::view::Envelope;
 use loops::Left;
 use std::num::f64_from_bits_with_nan as float;
 use std::{array, io};
-use vector_rows::numbers::{digits, has_bits, levels};
+use vector_rows::numbers::{DURATION, FLOOR, SAMPLES, digits, has_bits, levels};
 use vector_rows::rows::{RowKind, replay};
-
-// A frame above this level is loud.
-const FLOOR: f64 = 0.5;
-
-// Samples of the recording of a row of words: 64 frames.
-const SAMPLES: usize = 10240;
-
-// How long that recording is, in seconds; the last word of its row ends there.
-const DURATION: f64 = 0.64;
 
 // The places of the keys of a row.
 const KEYS: usize = 16;
@@ -63,7 +55,7 @@ const SPANS: usize = 5;
 // The letters of the words of such a row.
 const LETTERS: [u32; TIMED] = [1, 2, 1, 2, 1, 2, 1];
 
-// What a row of placing asks for, where it is no time.
+// The digit by which a row of placing asks for what is kept, and for no time.
 const KEPT: usize = 14;
 
 // The digit of -0.
@@ -257,7 +249,7 @@ impl Words {
     }
 }
 
-// The time that is asked for: a start where `asked` is even, an end where it is odd.
+// The time that is asked for: a start where `asked` is even, an end where it is odd, as the row's digit says it.
 fn asked_time(starts: &[f64], ends: &[f64], asked: usize) -> Option<f64> {
     let times = if asked % 2 == 0 { starts } else { ends };
     times.get(asked / 2).copied()
@@ -321,9 +313,11 @@ fn is_placed(digits: &[u32; 16], spans: &[u32; 16], r: u64) -> bool {
         &mut letters[..count],
         &mut units[..count],
         &mut keys[..count],
-        &span_starts[..span_count],
-        &span_ends[..span_count],
-        &counts[..span_count],
+        Spans {
+            starts: &span_starts[..span_count],
+            ends: &span_ends[..span_count],
+            counts: &counts[..span_count],
+        },
         &mut phrases[..count],
     );
     match answer {

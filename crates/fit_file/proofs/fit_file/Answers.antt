@@ -1,7 +1,7 @@
 -- `fit_file::fit_file_at` meets its contract, by what the tests found. Assumes nothing.
 use Rattle.base.proofs.First.{refused}
 use mathlib.Core.Path.{refl}
-use Rattle.fit_file.specs.FitFile.{Unchanged}
+use Rattle.base.specs.Refusals.{Unchanged}
 use Rattle.fit_file.proofs.Calls.{refused-made, short, ready, accepted-made}
 use Rattle.fit_file.proofs.fit_file.Goals as goal
 

@@ -3,15 +3,16 @@ use Rattle.base.proofs.First.{refused}
 use native.Mathlib.Omega.{arith}
 use mathlib.Core.Path.{refl}
 use lib.ListN.{length}
-use Rattle.base.specs.Words.{words, spans}
-use Rattle.full_run.specs.FullRun.{Unchanged}
+use Rattle.base.specs.Words.{words}
+use Rattle.base.specs.Spans.{spans_of}
+use Rattle.base.specs.Refusals.{Unchanged}
 use Rattle.full_run.proofs.Made.{hear-ready, after-ready, accept-is, refused-made, all-fine, accepted-made}
 use Rattle.full_run.proofs.full_run.Goals as goal
 
 pub hear-floor-requires : goal.hear-floor-requires
 hear-floor-requires c =
     let args = c.args in
-    let spans1 = spans args.span_starts.now args.span_ends.now args.counts.now in
+    let spans1 = spans_of args.spans in
     let words1 = words args.starts.now args.ends.now args.letters.now args.units.now args.keys.now in
     hear-ready args.samples.now words1 spans1 args.phrases.now args.levels.now
     args.piece_starts.now args.piece_ends.now (length args.work_starts.now)
@@ -24,7 +25,7 @@ hear-floor-requires c =
 pub slice_bounds-after_levels-end : goal.slice_bounds-after_levels-end
 slice_bounds-after_levels-end c =
     let args = c.args in
-    let spans1 = spans args.span_starts.now args.span_ends.now args.counts.now in
+    let spans1 = spans_of args.spans in
     let words1 = words args.starts.now args.ends.now args.letters.now args.units.now args.keys.now in
     omega (
       arith,
@@ -41,7 +42,7 @@ slice_bounds-after_levels-end c =
 pub after_levels-out-requires : goal.after_levels-out-requires
 after_levels-out-requires c =
     let args = c.args in
-    let spans1 = spans args.span_starts.now args.span_ends.now args.counts.now in
+    let spans1 = spans_of args.spans in
     let words1 = words args.starts.now args.ends.now args.letters.now args.units.now args.keys.now in
     after-ready args.samples.now words1 spans1 args.phrases.now args.levels.now
     args.piece_starts.now args.piece_ends.now (length args.work_starts.now)

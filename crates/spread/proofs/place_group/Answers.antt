@@ -1,13 +1,10 @@
 -- `spread::place_group` meets its contract. Assumes nothing.
-use Rattle.std.proofs.Common.{rules}
-use Rattle.spread.specs.Spread.{place_group}
-use Rattle.spread.specs.Parts.{place_around}
+use mathlib.Core.Path.{◌∙◌}
+use Rattle.spread.proofs.Groups.{group-around, group-stray}
 use Rattle.spread.proofs.place_group.Goals as goal
 
-pub returns-then-first-letters : goal.returns-then-first-letters
-unfolding place_group place_around
-returns-then-first-letters c = search rules
+pub returns-in-Some : goal.returns-in-Some
+returns-in-Some c = c.place_around.ensures ∙ group-around _ _ _ _ c.in-Some.ensures.0 c.in-Some.ensures.1
 
-pub returns-else-first-letters : goal.returns-else-first-letters
-unfolding place_group
-returns-else-first-letters c = search rules
+pub returns-in-None : goal.returns-in-None
+returns-in-None c = c.spread.ensures ∙ group-stray _ _ _ _ c.in-None.ensures.0

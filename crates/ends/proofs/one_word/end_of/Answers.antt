@@ -12,4 +12,4 @@ pub returns : goal.returns
 returns c =
     end_of_is _ _ (omega arith) _ _ _ c.frame_index-lo.ensures
     (c.min-hi.ensures ∙ ap (min _) (c.frame_index.ensures ∙ ap (λ (x : Float). min (to_nat (frame_at x)) (2 ^ 40)) c.reach.ensures))
-    c.last_loud-past.ensures.0 c.sound_end.ensures c.or_duration.ensures c.trim.ensures
+    c.sound_end-sound.ensures c.or_duration.ensures c.trim.ensures

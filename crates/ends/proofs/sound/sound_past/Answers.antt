@@ -6,7 +6,7 @@ use Rattle.ends.proofs.sound.sound_past.Goals as goal
 pub returns-then-next-past : goal.returns-then-next-past
 returns-then-next-past c =
     let inv = c.loop-past.invariant in
-    (stops-here _ _ _ _ _ (omega arith) c.min.ensures c.last_frame-next.ensures inv.1.1 (omega arith) inv.1.0 c.if-next-past.true, omega arith)
+    (stops-here _ _ _ _ _ (omega arith) c.min.ensures c.last_frame-next.ensures inv.1.1 (omega arith) inv.1.0 c.if-next-past.true, (omega arith, omega arith))
 
 pub loop-past-preserved : goal.loop-past-preserved
 loop-past-preserved c =
@@ -16,4 +16,4 @@ loop-past-preserved c =
     (omega arith, (omega arith, goes_on _ _ _ _ _ (omega arith) l c.last_frame-next.ensures inv.1.1 c.if-next-past.false))
 
 pub returns : goal.returns
-returns c = let inv = c.loop-past.invariant in (sound-over _ _ _ _ (omega arith) inv.1.1, omega arith)
+returns c = let inv = c.loop-past.invariant in (sound-over _ _ _ _ (omega arith) inv.1.1, (omega arith, omega arith))

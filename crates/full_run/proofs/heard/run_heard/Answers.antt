@@ -2,9 +2,10 @@
 use Rattle.base.proofs.First.{refused}
 use mathlib.Core.Path.{refl}
 use Rattle.full_run.proofs.Runs.{stages-ready, heard-refused, heard-accepted}
-use Rattle.base.specs.Words.{words, spans}
+use Rattle.base.specs.Words.{words}
+use Rattle.base.specs.Spans.{spans_of}
 use lib.ListN.{length}
-use mathlib.Core.Path.{sym, ◌∙◌}
+use mathlib.Core.Path.{sym}
 use Rattle.full_run.proofs.heard.run_heard.Goals as goal
 
 pub after_levels-out-requires : goal.after_levels-out-requires
@@ -12,7 +13,7 @@ after_levels-out-requires c =
     let args = c.args in
     stages-ready args.levels.now args.count
     (words args.starts.now args.ends.now args.letters.now args.units.now args.keys.now)
-    (spans args.span_starts.now args.span_ends.now args.counts.now) args.phrases.now
+    (spans_of args.spans) args.phrases.now
     args.piece_starts.now args.piece_ends.now (length args.work_starts.now) c.requires
     (sym c.in_ok-judge.ensures)
 
@@ -21,7 +22,7 @@ returns-in_err-judge c =
     let args = c.args in
     rw (refused _ c.from_residual.ensures.1) (heard-refused args.levels.now args.count
     (words args.starts.now args.ends.now args.letters.now args.units.now args.keys.now)
-    (spans args.span_starts.now args.span_ends.now args.counts.now) args.phrases.now
+    (spans_of args.spans) args.phrases.now
     args.piece_starts.now args.piece_ends.now (length args.work_starts.now) _ _ _ _ _
     c.in_err-judge.ensures refl)
 
@@ -30,5 +31,5 @@ returns c =
     let args = c.args in
     heard-accepted args.levels.now args.count
     (words args.starts.now args.ends.now args.letters.now args.units.now args.keys.now)
-    (spans args.span_starts.now args.span_ends.now args.counts.now) args.phrases.now
+    (spans_of args.spans) args.phrases.now
     args.piece_starts.now args.piece_ends.now (length args.work_starts.now) c.in_ok-judge.ensures refl c.floor_of-floor.ensures c.after_levels-out.ensures

@@ -13,7 +13,7 @@ needed places e h = h ∙ ap (of_places places) e
 pub returns : goal.returns
 unfolding applies_to
 returns c =
-    chain-made (also-made (also-made c.of_words-words.ensures (also-made c.of_spans-spans.ensures c.of_samples.ensures c.also.ensures) c.also-given.ensures)
+    chain-made (also-made (also-made c.of_words-listed.ensures (also-made c.of_spans-placed.ensures c.of_samples.ensures c.also.ensures) c.also-given.ensures)
     (also-made c.of_places-heard.ensures
     (also-made (needed _ c.places_needed.ensures c.of_places-cut.ensures)
     (also-made c.of_places-numbered.ensures c.of_places-fitted.ensures c.also-2.ensures) c.also-3.ensures) c.also-lent.ensures) c.also-4.ensures) c.chain.ensures

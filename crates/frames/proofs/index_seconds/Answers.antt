@@ -1,8 +1,8 @@
--- `frames::seconds` meets its contract. Assumes nothing.
+-- `frames::index_seconds` meets its contract. Assumes nothing.
 use Rattle.std.proofs.Common.{ap}
 use lib.Ieee.{Float, binary64, div}
 use Rattle.frames.specs.Frames.{rate, frame_seconds}
-use Rattle.frames.proofs.seconds.Goals as goal
+use Rattle.frames.proofs.index_seconds.Goals as goal
 
 pub returns : goal.returns
 unfolding frame_seconds
