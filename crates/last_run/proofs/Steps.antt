@@ -1,12 +1,12 @@
 -- The search back, by the code's state: one step at a loud and at a quiet frame, what is left of the loop, and the run that it found.
 -- A frame before frame 0 is quiet and leaves the state, so only the frames from 0 count. Assumes nothing.
-use Rattle.std.specs.Prelude.{Option, Some, None}
-use Prim.Native.Nat.{ℕ, zero, suc, ◌+◌, ◌-◌, ◌<◌, ◌≤◌, ◌^◌}
+use Rattle.std.specs.Prelude.{Some, None}
+use Prim.Native.Nat.{ℕ, zero, suc, ◌+◌, ◌-◌, ◌<◌, ◌≤◌}
 use mathlib.Core.Bool.{Bool, true, false, cond, ◌&&◌}
 use mathlib.Core.List.{List}
 use mathlib.Core.Path.{◌≡◌, refl, sym, ap, ◌∙◌}
 use native.Mathlib.Omega.{arith}
-use borrow.Author.Tests.{lt-ltb, le-ltb, ltb-true, ltb-false}
+use borrow.Author.Tests.{lt-ltb, le-ltb, ltb-true, ltb-false, ne_eqb}
 use lib.Dec.{ltb}
 use lib.IntN.{ℤ, pos, negsuc, pred_ℤ, ◌-ℤ◌}
 use lib.Signed.{lt_z, non_neg}
@@ -15,9 +15,8 @@ use Rattle.base.specs.Whole.{to_nat}
 use Rattle.base.specs.Loop.{on, out, run_back}
 use Rattle.base.proofs.Loops.{lt_z-nat, sub-nat, sub-pos, back-out, back-next, back-stop, back_done, back-nat}
 use Rattle.last_run.specs.LastRun.{Ends, back_step, back_turn, ends_between, frames_of, frames}
-use Rattle.last_run.specs.Parts.{ends_of, turn_of, Low}
+use Rattle.last_run.specs.Parts.{ends_of, turn_of}
 use Rattle.last_run.specs.declared.Search.{Search}
-use Rattle.last_run.specs.declared.FrameRun.{FrameRun}
 
 -- ---- the distance of two frames, compared
 pub minus-above : (f k : ℕ) → lt_z (pos 15) (pos f -ℤ pos k) ≡ ltb (k + 15) f
@@ -37,8 +36,8 @@ minus-from : (p f : ℕ) → f + 3 ≤ p → lt_z (pos p -ℤ pos f) (pos 3) ≡
 minus-from p f h = rw (sub-pos p f (omega arith)) (le-ltb (p - f) 3 (omega arith))
 
 -- ---- the code's state, and the definition's
-abbrev search : Option FrameRun → Bool → Search
-search run over = record { run = run; over = over }
+abbrev search : ℕ → ℕ → Bool → Search
+search first past over = record { first = first; past = past; over = over }
 
 -- no loud frame was met, or the first and the last are these
 abbrev pub nothing : Ends
@@ -47,17 +46,16 @@ nothing = record { end = negsuc 0; start = negsuc 0 }
 abbrev pub met : ℕ → ℕ → Ends
 met first last = record { end = pos last; start = pos first }
 
-ends-none : (s : Search) → s.run ≡ None → ends_of s ≡ nothing
+ends-none : (s : Search) → s.past ≡ 0 → ends_of s ≡ nothing
 unfolding ends_of
 ends-none s z = rw z
 
-ends-met : (s : Search) {r : FrameRun} → s.run ≡ Some r → ends_of s ≡ met r.first r.last
+ends-met : (s : Search) → (s.past ≡ 0 → ⊥) → ends_of s ≡ met s.first (s.past - 1)
 unfolding ends_of
-ends-met s z = rw z
-
--- a run that was met stands at frames below 2 ^ 40
-pub low-run : (s : Search) {r : FrameRun} → Low s → s.run ≡ Some r → (r.first < 2 ^ 40) × (r.last < 2 ^ 40)
-low-run s h e = rw e at h
+ends-met s n = rw (ne_eqb s.past 0 n) (ap (λ (z : ℤ). record { end = z; start = pos s.first }) (go s.past n)) where
+  go : (p : ℕ) → (p ≡ 0 → ⊥) → pred_ℤ (pos p) ≡ pos (p - 1)
+  go zero n = absurd (n refl)
+  go (suc p) n = ap pos (omega arith)
 
 turn_on : (s : Search) → s.over ≡ false → turn_of s ≡ on (ends_of s)
 unfolding turn_of
@@ -69,28 +67,28 @@ turn-out s h = rw h
 
 -- ---- one step at frame k
 module _ (k : ℕ) (s : Search) where
-  pub loud-first : s.run ≡ None → turn_of (search (Some (frames k k)) false) ≡ back_step true (pos k) (ends_of s)
+  pub loud-first : s.past ≡ 0 → turn_of (search k (k + 1) false) ≡ back_step true (pos k) (ends_of s)
   loud-first z =
-      turn_on (search (Some (frames k k)) false) refl ∙ ap on (ends-met (search (Some (frames k k)) false) refl)
+      let e : k + 1 - 1 ≡ k = omega arith in
+      turn_on (search k (k + 1) false) refl ∙ ap on (ends-met (search k (k + 1) false) (λ (h : k + 1 ≡ 0). omega arith) ∙ ap (met k) e)
       ∙ ap (back_step true (pos k)) (sym (ends-none s z))
 
-  module _ {r : FrameRun} (is : s.run ≡ Some r) where
-    pub loud-again : turn_of (search (Some (frames k r.last)) false) ≡ back_step true (pos k) (ends_of s)
-    loud-again =
-        let e : lt_z (pos r.last) (pos 0) ≡ false = le-ltb r.last 0 (omega arith) in
-        turn_on (search (Some (frames k r.last)) false) refl ∙ ap on (ends-met (search (Some (frames k r.last)) false) refl)
-        ∙ ap (λ (b : Bool). on (record { end = cond b (pos k) (pos r.last); start = pos k })) (sym e)
-        ∙ ap (back_step true (pos k)) (sym (ends-met s is))
+  pub loud-again : (s.past ≡ 0 → ⊥) → turn_of (search k s.past false) ≡ back_step true (pos k) (ends_of s)
+  loud-again n =
+      let e : lt_z (pos (s.past - 1)) (pos 0) ≡ false = le-ltb (s.past - 1) 0 (omega arith) in
+      turn_on (search k s.past false) refl ∙ ap on (ends-met (search k s.past false) n)
+      ∙ ap (λ (b : Bool). on (record { end = cond b (pos k) (pos (s.past - 1)); start = pos k })) (sym e)
+      ∙ ap (back_step true (pos k)) (sym (ends-met s n))
 
-    pub quiet-more : turn_of (search s.run (ltb (k + 15) r.first)) ≡ back_step false (pos k) (ends_of s)
-    unfolding turn_of
-    quiet-more =
-        ap (λ (e : Ends). cond (ltb (k + 15) r.first) (out e) (on e)) (ends-met (search s.run (ltb (k + 15) r.first)) is)
-        ∙ ap (λ (b : Bool). cond b (out (met r.first r.last)) (on (met r.first r.last))) (sym (minus-above r.first k))
-        ∙ ap (back_step false (pos k)) (sym (ends-met s is))
-
-  pub quiet_none : s.over ≡ false → s.run ≡ None → turn_of s ≡ back_step false (pos k) (ends_of s)
+  pub quiet_none : s.over ≡ false → s.past ≡ 0 → turn_of s ≡ back_step false (pos k) (ends_of s)
   quiet_none h z = turn_on s h ∙ ap on (ends-none s z) ∙ ap (back_step false (pos k)) (sym (ends-none s z))
+
+  pub quiet-more : (s.past ≡ 0 → ⊥) → turn_of (search s.first s.past (ltb (k + 15) s.first)) ≡ back_step false (pos k) (ends_of s)
+  unfolding turn_of
+  quiet-more n =
+      ap (λ (e : Ends). cond (ltb (k + 15) s.first) (out e) (on e)) (ends-met (search s.first s.past (ltb (k + 15) s.first)) n)
+      ∙ ap (λ (b : Bool). cond b (out (met s.first (s.past - 1))) (on (met s.first (s.past - 1)))) (sym (minus-above s.first k))
+      ∙ ap (back_step false (pos k)) (sym (ends-met s n))
 
 -- ---- the loop
 module _ (row : List Bool) where
@@ -110,9 +108,9 @@ module _ (row : List Bool) where
   unfoldable pub rest : ℕ → ℕ → Search → Ends
   rest lo k s = run_back (back_turn row) (k - lo) (pred_ℤ (pos k)) (on (ends_of s))
 
-  pub search-starts : (lo hi : ℕ) → ends_between row (pos lo) (pos hi) ≡ rest lo hi (search None false)
+  pub search-starts : (lo hi : ℕ) → ends_between row (pos lo) (pos hi) ≡ rest lo hi (search 0 0 false)
   unfolding rest
-  search-starts lo hi = ends-nat hi (pos lo) ∙ ap (λ (s : Ends). run_back (back_turn row) (hi - lo) (pred_ℤ (pos hi)) (on s)) (sym (ends-none (search None false) refl))
+  search-starts lo hi = ends-nat hi (pos lo) ∙ ap (λ (s : Ends). run_back (back_turn row) (hi - lo) (pred_ℤ (pos hi)) (on s)) (sym (ends-none (search 0 0 false) refl))
 
   module _ {x : Ends} {is_loud : Bool} (lo k : ℕ) (s s' : Search) (more : lo < k) (is : is_loud ≡ get_or row (k - 1) false)
       (turn : turn_of s' ≡ back_step is_loud (pos (k - 1)) (ends_of s)) (e : x ≡ rest lo k s) where
@@ -145,11 +143,11 @@ unfolding frames_of
 frames_of-none = refl
 
 module _ (s : Search) where
-  pub frames-none : s.run ≡ None → None ≡ frames_of (ends_of s)
+  pub frames-none : s.past ≡ 0 → None ≡ frames_of (ends_of s)
   frames-none z = sym (ap frames_of (ends-none s z) ∙ frames_of-none)
 
-  pub frames-under : {r : FrameRun} → s.run ≡ Some r → r.last < r.first + 3 → None ≡ frames_of (ends_of s)
-  frames-under {r} e h = sym (ap frames_of (ends-met s e) ∙ frames_of-under r.first r.last h)
+  pub frames-under : (s.past ≡ 0 → ⊥) → s.past - 1 < s.first + 3 → None ≡ frames_of (ends_of s)
+  frames-under n h = sym (ap frames_of (ends-met s n) ∙ frames_of-under s.first (s.past - 1) h)
 
-  pub frames-from : {r : FrameRun} → s.run ≡ Some r → r.first + 3 ≤ r.last → Some r ≡ frames_of (ends_of s)
-  frames-from {r} e h = sym (ap frames_of (ends-met s e) ∙ frames_of-from r.first r.last h)
+  pub frames-from : (s.past ≡ 0 → ⊥) → s.first + 3 ≤ s.past - 1 → Some (frames s.first (s.past - 1)) ≡ frames_of (ends_of s)
+  frames-from n h = sym (ap frames_of (ends-met s n) ∙ frames_of-from s.first (s.past - 1) h)

@@ -21,10 +21,12 @@ pub struct FrameRun {
     pub last: usize,
 }
 
-// A search backwards: the run so far, if a loud frame was met, and whether it is over.
-#[derive(Clone, Copy)]
+// A search backwards: the first frame of the run so far, the frame past its last (0: no loud frame was met; with an `Option` in its place
+// a search took twice as long), and whether it is over.
+#[derive(Drop)]
 pub struct Search {
-    pub run: Option<FrameRun>,
+    pub first: usize,
+    pub past: usize,
     pub over: bool,
 }
 
@@ -33,12 +35,16 @@ fn at_loud(s: Search, k: usize) -> Search
     requires { (k < 2 ^ 40) × Low s }
     ensures { (turn_of result ≡ back_step true (pos k) (ends_of s)) × Low result }
 {
-    let last = match s.run {
-        None => k,
-        Some(run) => run.last,
-    };
+    if s.past == 0 {
+        return Search {
+            first: k,
+            past: k + 1,
+            over: false,
+        };
+    }
     Search {
-        run: Some(FrameRun { first: k, last }),
+        first: k,
+        past: s.past,
         over: false,
     }
 }
@@ -48,12 +54,13 @@ fn at_quiet(s: Search, k: usize) -> Search
     requires { (s.over ≡ false) × ((k < 2 ^ 40) × Low s) }
     ensures { (turn_of result ≡ back_step false (pos k) (ends_of s)) × Low result }
 {
-    match s.run {
-        None => s,
-        Some(run) => Search {
-            run: s.run,
-            over: k + END_SILENCE < run.first,
-        },
+    if s.past == 0 {
+        return s;
+    }
+    Search {
+        first: s.first,
+        past: s.past,
+        over: k + END_SILENCE < s.first,
     }
 }
 
@@ -74,7 +81,8 @@ fn search_back(e: Envelope<'_>, lo: usize, hi: usize) -> Search
     ensures { (ends_of result ≡ ends_between (loud_in e.entry) (pos lo) (pos hi)) × Low result }
 {
     let mut s = Search {
-        run: None,
+        first: 0,
+        past: 0,
         over: false,
     };
     for k in (lo..hi).rev() {
@@ -91,10 +99,16 @@ pub fn frames_of(s: Search) -> Option<FrameRun>
     requires { Low s }
     ensures { (result ≡ frames_of (ends_of s)) × (last_frame result < 2 ^ 40) }
 {
-    match s.run {
-        Some(run) if run.first + MIN_RUN <= run.last => s.run,
-        _ => None,
+    if s.past == 0 {
+        return None;
     }
+    if s.past - 1 < s.first + MIN_RUN {
+        return None;
+    }
+    Some(FrameRun {
+        first: s.first,
+        last: s.past - 1,
+    })
 }
 
 // The last run of the frames from lo to before hi.
