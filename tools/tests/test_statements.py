@@ -141,6 +141,16 @@ class Documents(unittest.TestCase):
         self.file("crates/c/src/part.rt", "pub fn one() -> u32\n    requires { ⌜ a ⌝ }\n{\n    1\n}\nfn other() {}\n")
         self.assertEqual(self.run_it()[0], 0)
 
+    def test_a_function_of_its_crate_alone(self):
+        self.file("crates/c/src/part.rt", "pub fn one() -> u32 {\n    1\n}\npub(crate) fn other() {}\n")
+        self.assertEqual(self.run_it()[0], 0)
+        self.documents(parts=PARTS.replace("`part::one`", "`part::one`, `part::other`"))
+        self.wrong("docs/PROMISES.md:7: there is no pub fn c::part::other")
+
+    def test_what_a_function_of_its_crate_requires(self):
+        self.file("crates/c/src/lib.rt", "pub mod part;\npub fn two() -> u32 {\n    2\n}\npub(crate) fn own()\n    requires { ⌜ a ⌝ }\n{\n}\n")
+        self.assertEqual(self.run_it()[0], 0)
+
     def test_a_function_in_neither_table(self):
         self.documents(parts="")
         self.wrong("docs/PROMISES.md:14: the pub fn c::part::one is neither a public call nor an unchecked part")

@@ -4,14 +4,24 @@ use mathlib.Core.Path.{◌≡◌, sym, ◌∙◌}
 use mathlib.Core.List.{List, [], ◌∷◌, ◌++◌, append-nil}
 use native.Mathlib.Omega.{arith}
 use native.Mathlib.Numerals.{add-one}
-use lib.ListN.{length, take, drop, set, replicate, length-append, length-drop, drop_of_length-le}
+use lib.ListN.{length, take, drop, set, replicate, length-append, length-replicate, length-drop, drop_of_length-le}
 use lib.Seq.{length-take-le, take-suc-set, append_snoc}
 use lib.Ieee.{Float}
-use Rattle.base.specs.Words.{Words, words, in_places, zero_f, part, with_part, words_in_places}
+use Rattle.base.specs.Words.{Words, words, edges, count, in_places, zero_f, part, with_part, words_in_places}
 use Rattle.base.specs.Parts.{OneLength, first_words}
 
 pub words-alike : {a a' b b' : List Float} {d d' e e' f f' : List ℕ} → a ≡ a' → b ≡ b' → d ≡ d' → e ≡ e' → f ≡ f' → words a b d e f ≡ words a' b' d' e' f'
 words-alike p q r s t = rw (p, q, r, s, t)
+
+pub edges-alike : {a a' b b' : List Float} → a ≡ a' → b ≡ b' → edges a b ≡ edges a' b'
+edges-alike p q = rw (p, q)
+
+-- ---- so many places, however many of the words stay
+pub places-kept : (m r : ℕ) (ws : Words) → r ≤ m → r ≤ count ws → count (words_in_places m (first_words r ws)) ≡ m
+unfolding words_in_places first_words
+places-kept m r ws h k =
+    let n : length (take r ws.keys) ≡ r = length-take-le r ws.keys k in
+    simp (length-append, length-replicate, n) (omega arith)
 
 -- ---- a list whose places from c on were filled with zero
 filled-places : {A : Type 0} (z : A) (m c : ℕ) (xs ys : List A) → length xs ≡ m → c ≤ m

@@ -4,6 +4,9 @@ pub mod Loop
 pub mod Words
 pub mod WordLists
 pub mod Spans
+pub mod SpanList
+pub mod TimedWords
+pub mod WordListsMut
 pub mod Parts
 pub mod Floats
 pub mod Refusals

@@ -1,13 +1,14 @@
 // What every part shares: the refusals of document 01 with their numbers, a word's times, and the constants that more than one part uses.
 #![tactic(auto)]
 
-ghost use Rattle.std.specs.Prelude.{◌≡◌, ◌≤◌, length};
+ghost use Rattle.std.specs.Prelude.{◌≡◌};
 ghost use Rattle.base.specs.Refusals.{number as number_of};
-ghost use Rattle.base.specs.Words.{words, words_in_places};
-ghost use Rattle.base.specs.Parts.{OneLength, first_words};
 
+pub mod span_list;
 pub mod spans;
+pub mod timed_words;
 pub mod word_lists;
+pub mod word_lists_mut;
 
 // Samples in a frame.
 pub const HOP: usize = 160;
@@ -68,26 +69,4 @@ impl From<Refusal> for u32 {
             Refusal::Cut => 8,
         }
     }
-}
-
-// Makes every place of the words from `count` on zero.
-pub fn clear(
-    starts: &mut [f64],
-    ends: &mut [f64],
-    letters: &mut [u32],
-    units: &mut [u32],
-    keys: &mut [u32],
-    count: usize,
-)
-    requires { (OneLength (length keys.old) (words starts.old ends.old letters.old units.old keys.old))
-        × (count ≤ length keys.old) }
-    ensures { let before = words starts.old ends.old letters.old units.old keys.old in
-        let after = words starts.new ends.new letters.new units.new keys.new in
-        after ≡ words_in_places (length keys.old) (first_words count before) }
-{
-    starts[count..].fill(0.0);
-    ends[count..].fill(0.0);
-    letters[count..].fill(0);
-    units[count..].fill(0);
-    keys[count..].fill(0);
 }

@@ -198,7 +198,7 @@ impl From<Result<f64, Refusal>> for QiluvraitLevel {
 pub extern "C" fn qiluvrait_peak(samples: &[f32], start: f64, end: f64) -> QiluvraitLevel
     ensures { result ≡ level_of (peak_call samples.now start end) }
 {
-    QiluvraitLevel::from(peak::peak(samples, start, end))
+    QiluvraitLevel::from(peak::peak(samples, Times { start, end }))
 }
 
 // What qiluvrait_collapse_loops answers: refusal 0, the words left and 1 where a loop was found, or the number of the refusal.

@@ -15,39 +15,7 @@ use Rattle.js.specs.Js.{js_min, js_max}
 use Rattle.ends.specs.Ends.{no_length, next_start, soon, is_pair, reach, or_duration, trimmed, pair_start, pair_edge, pair_of}
 use Rattle.ends.specs.Parts.{is_loose}
 
--- ---- the next word
-module _ (next : Option Float) where
-  pub reach-next : {s r : Float} (duration start : Float) → next ≡ Some s → r ≡ js_max s start → r ≡ reach next duration start
-  unfolding reach
-  reach-next duration start e h = rw e h
-
-  pub reach-last : (duration start : Float) → next ≡ None → duration ≡ reach next duration start
-  unfolding reach
-  reach-last duration start e = rw e
-
-  pub until-next : {s : Float} (duration : Float) → next ≡ Some s → s ≡ or_duration next duration
-  unfolding or_duration
-  until-next duration e = rw e
-
-  pub until-last : (duration : Float) → next ≡ None → duration ≡ or_duration next duration
-  unfolding or_duration
-  until-last duration e = rw e
-
-  pub soon-next : {s : Float} (w : Times) → next ≡ Some s → lt (s ⊖ w.start) no_length ≡ soon next w
-  soon-next w e = rw e
-
-  pub soon-last : (w : Times) → next ≡ None → false ≡ soon next w
-  soon-last w e = rw e
-
 module _ (starts : List Float) (i : ℕ) where
-  pub next-there : {s : Float} → i + 1 < length starts → s ≡ get_or starts (i + 1) nan → Some s ≡ next_start starts i
-  unfolding next_start
-  next-there h e = rw (lt-ltb (i + 1) (length starts) h, e)
-
-  pub next-none : length starts ≤ i + 1 → None ≡ next_start starts i
-  unfolding next_start
-  next-none h = rw (le-ltb (i + 1) (length starts) h)
-
   -- a pair has a next word
   pub pair-in : {next : Option Float} (w : Times) → next ≡ next_start starts i → is_pair next w ≡ true → i + 1 < length starts
   unfolding is_pair next_start

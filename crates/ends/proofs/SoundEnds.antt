@@ -1,7 +1,7 @@
 -- The last loud frame before a silence: the code keeps the frame past it, from which the loop's two numbers follow, and so it needs no count of
 -- quiet frames; from there it looks back from the last frame that may go on with the sound; frames below zero change nothing. Assumes nothing.
 use Rattle.std.specs.Prelude.{Some, None}
-use Prim.Native.Nat.{ℕ, zero, suc, ◌+◌, ◌-◌, ◌<◌, ◌≤◌, ◌^◌, min, max}
+use Prim.Native.Nat.{ℕ, zero, suc, ◌+◌, ◌-◌, ◌<◌, ◌≤◌, min, max}
 use mathlib.Core.Bool.{Bool, true, false, cond, ◌&&◌}
 use mathlib.Core.List.{List}
 use mathlib.Core.Path.{◌≡◌, refl, sym, ap, ◌∙◌}
@@ -14,11 +14,10 @@ use lib.ListN.{length}
 use lib.Ieee.{Float}
 use Rattle.base.specs.Whole.{to_nat, min_z}
 use Rattle.base.specs.Loop.{on, out, run}
-use Rattle.base.proofs.Loops.{advance, range-nat, run-start, run-stop, run-next, run-done}
+use Rattle.base.proofs.Loops.{min-nat, advance, range-nat, run-start, run-stop, run-next, run-done}
 use Rattle.frames.specs.Frames.{frame_seconds}
-use Rattle.frames.proofs.Indices.{min_z-index}
 use Rattle.envelope.specs.Envelope.{loud, loud_row}
-use Rattle.envelope.specs.Parts.{Met, Past}
+use Rattle.envelope.specs.Parts.{Throughout, IsFirst, IsLast}
 use Rattle.envelope.proofs.Scan.{length-row}
 use Rattle.ends.specs.Ends.{Last, last_turn, last_loud, sound_end}
 use Rattle.ends.specs.Parts.{seen, sound_on}
@@ -121,27 +120,28 @@ module _ (edge : ℕ) (row : List Bool) where
   search-done hi k past h e = sym (ap suc_ℤ (e ∙ ap (λ (s : Last). s.last) (run-done (last_turn edge row) hi k (seen k past) h)) ∙ suc-pred (pos past))
 
   -- ---- the first loud frame, and what follows it
-  module _ (lo hi first : ℕ) (m : Met row true lo hi first) where
-    quiet-to : (e : ℕ) → lo ≤ e → e ≤ max lo hi → ((j : ℕ) → lo ≤ j → j < e → loud row (pos j) ≡ false)
+  module _ (lo hi : ℕ) where
+    quiet-to : (e : ℕ) → lo ≤ e → e ≤ max lo hi → Throughout row false lo e
         → last_loud edge row (pos lo) (pos hi) ≡ (run (last_turn edge row) (hi - e) (pos e) (on (seen e 0))).last
     unfolding is_past
     quiet-to e l h a =
         search-starts lo hi
         ∙ ap (λ (s : Last). s.last) (advance (last_turn edge row) (λ (j : ℕ). seen j 0) hi lo e l h (λ (j : ℕ) (p : lo ≤ j) (q : j < e). quiet-turn j 0 (omega arith) (a j p q) false refl))
 
-    pub first-met : {r : ℕ} → first < hi → 0 < edge → pos r ≡ suc_ℤ (sound_on edge row (first + 1) hi) → pos r ≡ suc_ℤ (last_loud edge row (pos lo) (pos hi))
+    pub first-met : {r first : ℕ} → IsFirst row true lo hi first → 0 < edge → pos r ≡ suc_ℤ (sound_on edge row (first + 1) hi) → pos r ≡ suc_ℤ (last_loud edge row (pos lo) (pos hi))
     unfolding sound_on
-    first-met h s e =
-        let n : first + 1 ≡ cond (loud row (pos first)) (first + 1) 0 = rw (m.found h) in
-        e ∙ ap suc_ℤ (sym (search-next first 0 (omega arith) s n hi h (is_past-at first s) (quiet-to first m.from m.to m.none)))
+    first-met {first = first} m s e =
+        let h = m.to in
+        let n : first + 1 ≡ cond (loud row (pos first)) (first + 1) 0 = rw m.found in
+        e ∙ ap suc_ℤ (sym (search-next first 0 (omega arith) s n hi h (is_past-at first s) (quiet-to first m.from (omega arith) m.before)))
 
-    pub first-none : hi ≤ first → pos 0 ≡ suc_ℤ (last_loud edge row (pos lo) (pos hi))
-    first-none h =
+    pub first-none : Throughout row false lo hi → pos 0 ≡ suc_ℤ (last_loud edge row (pos lo) (pos hi))
+    first-none quiet =
         search-done hi (max lo hi) 0 (omega arith)
-        (quiet-to (max lo hi) (omega arith) (omega arith) (λ (j : ℕ) (p : lo ≤ j) (q : j < max lo hi). m.none j p (omega arith)))
+        (quiet-to (max lo hi) (omega arith) (omega arith) (λ (j : ℕ) (p : lo ≤ j) (q : j < max lo hi). quiet j p (omega arith)))
 
   -- ---- a sound goes on at the last loud frame among the `edge` next ones, and ends where there is none
-  module _ {x : ℤ} {far : ℕ} (past hi next : ℕ) (some : 0 < edge) (is : far ≡ min hi (past + edge)) (m : Past row past far next) (e : x ≡ sound_on edge row past hi) where
+  module _ {x : ℤ} {far : ℕ} (past hi : ℕ) (some : 0 < edge) (is : far ≡ min hi (past + edge)) (e : x ≡ sound_on edge row past hi) where
     -- frame j, where the last loud one lies before frame p
     Stands : ℕ → ℕ → Type 0
     Stands j p = (past ≤ p) × ((p ≤ j) × (x ≡ (run (last_turn edge row) (hi - j) (pos j) (on (seen j p))).last))
@@ -182,24 +182,25 @@ module _ (edge : ℕ) (row : List Bool) where
         (quiet-on d (omega arith) (omega arith) (λ (j : ℕ) (p : past ≤ j) (q : j < past + d). a j p (omega arith))))
 
     -- and the turn at the last loud frame
-    arrives : (k p : ℕ) → k + 1 ≡ next → past < next → k < hi → Stands k p → x ≡ (run (last_turn edge row) (hi - next) (pos next) (on (seen next next))).last
+    arrives : (last k p : ℕ) → k ≡ last → loud row (pos last) ≡ true → last < hi → Stands k p
+        → x ≡ (run (last_turn edge row) (hi - (last + 1)) (pos (last + 1)) (on (seen (last + 1) (last + 1)))).last
     unfolding Stands
-    arrives k p y l h (a, (b, r)) =
-        let z : next - 1 ≡ k = omega arith in
-        let f : loud row (pos k) ≡ true = rw z at (m.found l) in
+    arrives last k p y found h (a, (b, r)) =
+        let f : loud row (pos k) ≡ true = rw y found in
         let n : k + 1 ≡ cond (loud row (pos k)) (k + 1) p = rw f in
-        rw y at (search-next k p b some n hi h (is_past-at k some) r)
+        rw y at (search-next k p b some n hi (omega arith) (is_past-at k some) r)
 
-    pub goes_on : past < next → x ≡ sound_on edge row next hi
+    pub goes_on : (last : ℕ) → IsLast row past far last → x ≡ sound_on edge row (last + 1) hi
     unfolding sound_on
-    goes_on h =
+    goes_on last m =
+        let l = m.from in
         let t = m.to in
-        let s = stands (next - 1 - past) (omega arith) (omega arith) in arrives (past + (next - 1 - past)) s.0 (omega arith) h (omega arith) s.1
+        let s = stands (last - past) (omega arith) (omega arith) in arrives last (past + (last - past)) s.0 (omega arith) m.found (omega arith) s.1
 
-    pub stops-here : 0 < past → past ≤ hi → next ≤ past → pos past ≡ suc_ℤ x
-    stops-here h l n = go (leb (past + edge) hi) refl where
+    pub stops-here : 0 < past → past ≤ hi → Throughout row false past far → pos past ≡ suc_ℤ x
+    stops-here h l quiet = go (leb (past + edge) hi) refl where
       all : (j : ℕ) → past ≤ j → j < min hi (past + edge) → loud row (pos j) ≡ false
-      all j p q = m.none j (omega arith) (rw is q)
+      all j p q = quiet j p (rw is q)
 
       go : (t : Bool) → leb (past + edge) hi ≡ t → pos past ≡ suc_ℤ x
       go true t =
@@ -236,13 +237,12 @@ end-none last h = sound_none 0 refl ∙ ap (λ (z : ℤ). sound_end (pred_ℤ z)
 pub end-some : {s : Float} (past : ℕ) (last : ℤ) → (past ≡ 0 → ⊥) → pos past ≡ suc_ℤ last → s ≡ frame_seconds (pos past) → Some s ≡ sound_end last
 end-some past last n h e = sound-some past n e ∙ ap (λ (z : ℤ). sound_end (pred_ℤ z)) h ∙ ap sound_end (pred-suc last)
 
--- ---- a search from frame a to b, where there are frames, is one between indices that are cut at 2 ^ 40
-module _ (edge : ℕ) (floor : Float) (levels : List Float) (short : length levels ≤ 2 ^ 40) (a b : ℤ) (lo hi : ℕ)
-    (islo : lo ≡ min (to_nat a) (2 ^ 40)) (ishi : hi ≡ min (length levels) (min (to_nat b) (2 ^ 40))) where
+-- ---- a search from frame a to b, where there are frames, is one between indices
+module _ (edge : ℕ) (floor : Float) (levels : List Float) (a b : ℤ) (lo hi : ℕ) (islo : lo ≡ to_nat a) (ishi : hi ≡ min (length levels) (to_nat b)) where
   pub last_loud-is : last_loud edge (loud_row floor levels) a (min_z (pos (length (loud_row floor levels))) b)
       ≡ last_loud edge (loud_row floor levels) (pos lo) (pos hi)
   last_loud-is =
-      let e : to_nat (min_z (pos (length levels)) b) ≡ hi = min_z-index (length levels) b short ∙ sym ishi in
+      let e : to_nat (min_z (pos (length levels)) b) ≡ hi = min-nat (length levels) b ∙ sym ishi in
       rw (length-row floor levels)
       (last_loud-nat edge (loud_row floor levels) a (min_z (pos (length levels)) b)
       ∙ rw e (ap (λ (s : Last). s.last) (run-start (last_turn edge (loud_row floor levels)) hi (to_nat a) lo (record { last = negsuc 0; quiet = 0 }) (omega arith)))

@@ -1,12 +1,14 @@
 // Loose ends, moved to where the sound stops (onsets.rs, snap_ends).
 #![tactic(auto)]
 
-ghost use Rattle.std.specs.Prelude.{◌≡◌, ◌+◌, ◌<◌, ◌≤◌, ◌^◌, length};
-ghost use Rattle.base.specs.Words.{words, edges};
+ghost use Rattle.std.specs.Prelude.{◌≡◌, ◌+◌, ◌<◌, length};
+ghost use Rattle.base.specs.Words.{words};
+ghost use Rattle.base.specs.TimedWords.{edges_of, SameLists};
 ghost use Rattle.word_calls.specs.Calls.{output};
 ghost use Rattle.ends.specs.Ends.{end_turn, snap_ends, ends_call, set_pair};
 ghost use Rattle.envelope.specs.Frames.{loud_in};
 
+use base::timed_words::TimedWords;
 use base::word_lists::WordLists;
 use base::{Refusal, Times};
 use envelope::view::Envelope;
@@ -16,60 +18,39 @@ pub mod sound;
 
 // Stores the times of the first of two words, and the edge as the second's start.
 #[tactic(auto, unfolding(crate::specs::Ends::set_pair))]
-fn set_pair(starts: &mut [f64], ends: &mut [f64], i: usize, t: Times)
-    requires { (i + 1 < length starts.old) × (length ends.old ≡ length starts.old) }
-    ensures { edges starts.new ends.new ≡ set_pair (edges starts.old ends.old) i t }
+fn set_pair(w: &mut TimedWords<'_>, i: usize, t: Times)
+    requires { i + 1 < length w.old.starts.now }
+    ensures same { SameLists w.old w.new }
+    ensures stored { edges_of w.new ≡ set_pair (edges_of w.old) i t }
 {
-    starts[i] = t.start;
-    ends[i] = t.end;
-    starts[i + 1] = t.end;
+    w.put(i, t);
+    w.starts[i + 1] = t.end;
 }
 
-// Word i: it ends where its sound stops, or shares an edge with the next.
-fn snap_end(
-    starts: &mut [f64],
-    ends: &mut [f64],
-    units: &[u32],
-    e: Envelope<'_>,
-    duration: f64,
-    i: usize,
-)
-    requires { (i < length starts.old)
-        × ((length ends.old ≡ length starts.old)
-        × ((length units.now ≡ length starts.old) × (length e.levels.now ≤ 2 ^ 40))) }
-    ensures { let before = edges starts.old ends.old in
-        let after = edges starts.new ends.new in
-        after ≡ end_turn (loud_in e.entry) duration units.now i before }
+// Word i: it ends where its sound stops, or shares an edge with the next. Words weigh by their units.
+fn snap_end(w: &mut TimedWords<'_>, e: Envelope<'_>, duration: f64, i: usize)
+    requires { i < length w.old.starts.now }
+    ensures same { SameLists w.old w.new }
+    ensures snapped { edges_of w.new ≡ end_turn (loud_in e.entry) duration w.old.weights.now i (edges_of w.old) }
 {
-    let w = Times {
-        start: starts[i],
-        end: ends[i],
-    };
-    let next = one_word::next_start(starts, i);
-    if one_word::is_pair(next, w) {
-        let t = one_word::pair_of(e, w, ends[i + 1], units[i], units[i + 1]);
-        set_pair(starts, ends, i, t);
+    let t = w.at(i);
+    let next = one_word::start_after(w, i);
+    if one_word::is_pair(next, t) {
+        let edge = one_word::pair_of(e, t, w.ends[i + 1], w.weights[i], w.weights[i + 1]);
+        set_pair(w, i, edge);
         return;
     }
-    let cut = one_word::end_of(e, duration, next, w);
-    ends[i] = cut.end;
+    let cut = one_word::end_of(e, duration, next, t);
+    w.ends[i] = cut.end;
 }
 
-// Moves each loose end to where the sound stops (onsets.rs, snap_ends); nothing is checked.
-pub fn move_ends(
-    starts: &mut [f64],
-    ends: &mut [f64],
-    units: &[u32],
-    e: Envelope<'_>,
-    duration: f64,
-)
-    requires { (length ends.old ≡ length starts.old) × ((length units.now ≡ length starts.old) × (length e.levels.now ≤ 2 ^ 40)) }
-    ensures { let before = edges starts.old ends.old in
-        let after = edges starts.new ends.new in
-        after ≡ snap_ends (loud_in e.entry) duration units.now before }
+// Moves each loose end to where the sound stops (onsets.rs, snap_ends), of words that weigh by their units; nothing is checked.
+pub fn move_ends(w: &mut TimedWords<'_>, e: Envelope<'_>, duration: f64)
+    ensures same { SameLists w.old w.new }
+    ensures snapped { edges_of w.new ≡ snap_ends (loud_in e.entry) duration w.old.weights.now (edges_of w.old) }
 {
-    for i in 0..starts.len() {
-        snap_end(starts, ends, units, e, duration, i);
+    for i in 0..w.starts.len() {
+        snap_end(w, e, duration, i);
     }
 }
 
@@ -99,6 +80,11 @@ pub fn snap_ends(
         e.count,
         duration,
     )?;
-    move_ends(starts, ends, units, e, duration);
+    let mut w = TimedWords {
+        starts,
+        ends,
+        weights: units,
+    };
+    move_ends(&mut w, e, duration);
     Ok(())
 }

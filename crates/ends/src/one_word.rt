@@ -1,9 +1,10 @@
 // One word's times: its end moved to where the sound stops, or the edge that it shares with the next (onsets.rs, snap_ends).
-ghost use Rattle.std.specs.Prelude.{◌≡◌, ◌+◌, ◌<◌, ◌≤◌, ◌^◌, length};
+ghost use Rattle.std.specs.Prelude.{◌≡◌, ◌<◌, length};
 ghost use Rattle.ends.specs.Ends.{next_start, soon as soon_of, is_pair, pair_start, pair_edge, pair_of, reach as reach_of, or_duration, trimmed, end_of};
 ghost use Rattle.ends.specs.Parts.{is_loose};
 ghost use Rattle.envelope.specs.Frames.{loud_in};
 
+use base::timed_words::TimedWords;
 use base::{EDGE_QUIET, LOOSE, Times};
 use envelope::view::Envelope;
 
@@ -62,15 +63,10 @@ pub fn or_duration(next: Option<f64>, duration: f64) -> f64
 
 // A word that is no pair with the next: its times, with its end by its sound.
 pub fn end_of(e: Envelope<'_>, duration: f64, next: Option<f64>, w: Times) -> Times
-    requires { length e.levels.now ≤ 2 ^ 40 }
     ensures { result ≡ end_of (loud_in e.entry) duration next w }
 {
-    let lo = frames::frame_index(w.start);
-    let hi = e
-        .levels
-        .len()
-        .min(frames::frame_index(reach(next, duration, w.start)));
-    let sound = super::sound::sound_end(e, EDGE_QUIET, lo, hi);
+    let r = e.between(w.start, reach(next, duration, w.start));
+    let sound = super::sound::sound_end(e, EDGE_QUIET, r);
     trim(sound, or_duration(next, duration), w)
 }
 
@@ -81,6 +77,14 @@ pub fn next_start(starts: &[f64], i: usize) -> Option<f64>
     ensures { result ≡ next_start starts.now i }
 {
     starts.get(i + 1).copied()
+}
+
+// The same, of the words whose times are moved.
+pub fn start_after(w: &TimedWords<'_>, i: usize) -> Option<f64>
+    requires { i < length w.now.starts.now }
+    ensures { result ≡ next_start w.now.starts.now i }
+{
+    next_start(w.starts, i)
 }
 
 // Whether there is a next word, and it starts less than 0.06 s after this one, or before it.
@@ -100,16 +104,13 @@ pub fn is_pair(next: Option<f64>, w: Times) -> bool
 
 // Where the first of two words that share an edge starts: at the first loud frame up to the next word's end, if that is later.
 fn pair_start(e: Envelope<'_>, start: f64, next_end: f64) -> f64
-    requires { length e.levels.now ≤ 2 ^ 40 }
     ensures { result ≡ pair_start (loud_in e.entry) start next_end }
 {
-    let lo = frames::frame_index(start);
-    let hi = e.levels.len().min(frames::frame_index(next_end));
-    let k = e.first_frame(true, lo, hi);
-    if k < hi {
-        return js::js_max(start, frames::index_seconds(k));
-    }
-    start
+    let r = e.between(start, next_end);
+    let Some(k) = e.first_frame(true, r.lo, r.hi) else {
+        return start;
+    };
+    js::js_max(start, frames::index_seconds(k))
 }
 
 // The edge that two words share, by their units, to three decimals.
@@ -124,7 +125,6 @@ fn pair_edge(start: f64, next_end: f64, own: u32, other: u32) -> f64
 // The times of the first of two words that share an edge.
 #[tactic(auto, unfolding(crate::specs::Ends::pair_of))]
 pub fn pair_of(e: Envelope<'_>, w: Times, next_end: f64, own: u32, other: u32) -> Times
-    requires { length e.levels.now ≤ 2 ^ 40 }
     ensures { result ≡ pair_of (loud_in e.entry) w next_end own other }
 {
     let start = pair_start(e, w.start, next_end);

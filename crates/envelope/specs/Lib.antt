@@ -2,3 +2,4 @@
 pub mod Envelope
 pub mod Frames
 pub mod Parts
+pub mod Sound

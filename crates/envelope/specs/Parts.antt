@@ -1,5 +1,5 @@
 -- What only the contracts of the unchecked core cite; a reader of the public call may skip it. Assumes nothing.
-use Rattle.std.specs.Prelude.{◌≡◌, ℕ, ◌-◌, ◌<◌, ◌≤◌, max, Bool, true, false, not, T, List, length, pos, is_nan, slice_index_or, slice_set, Float}
+use Rattle.std.specs.Prelude.{◌≡◌, ℕ, ◌+◌, ◌<◌, ◌≤◌, Bool, true, false, not, T, List, length, pos, is_nan, slice_index_or, slice_set, Float}
 use Rattle.std.specs.Float.{nan}
 use Rattle.envelope.specs.declared.level.Four.{Four}
 use Rattle.envelope.specs.Envelope.{squares, level, frame, loud}
@@ -21,18 +21,22 @@ pub record Summed (samples : List Float) (sums : Four) : Type 0 where
 abbrev pub stored : List Float → ℕ → List Float → List Float
 stored samples k places = slice_set places k (level (frame samples k))
 
--- ======== The call
+-- ======== The searches among the frames
 
--- ---- r is the first frame from lo to before hi that is loud (or is not), or where the search ends.
-pub record Met (row : List Bool) (want : Bool) (lo hi r : ℕ) : Type 0 where
-  pub from : lo ≤ r
-  pub to : r ≤ max lo hi
-  pub none : (j : ℕ) → lo ≤ j → j < r → loud row (pos j) ≡ not want
-  pub found : r < hi → loud row (pos r) ≡ want
+-- ---- Each frame from lo to before hi is loud, where `is` is true; none of them is, where it is false.
+abbrev pub Throughout : List Bool → Bool → ℕ → ℕ → Type 0
+Throughout row is lo hi = (j : ℕ) → lo ≤ j → j < hi → loud row (pos j) ≡ is
 
--- ---- r is the frame past the last loud one from lo to before hi, or lo where there is none.
-pub record Past (row : List Bool) (lo hi r : ℕ) : Type 0 where
-  pub from : lo ≤ r
-  pub to : r ≤ max lo hi
-  pub none : (j : ℕ) → r ≤ j → j < hi → loud row (pos j) ≡ false
-  pub found : lo < r → loud row (pos (r - 1)) ≡ true
+-- ---- k is the first frame from lo to before hi that is loud, where `want` is true, or that is not, where it is false.
+pub record IsFirst (row : List Bool) (want : Bool) (lo hi k : ℕ) : Type 0 where
+  pub from : lo ≤ k
+  pub to : k < hi
+  pub found : loud row (pos k) ≡ want
+  pub before : Throughout row (not want) lo k
+
+-- ---- k is the last loud frame from lo to before hi.
+pub record IsLast (row : List Bool) (lo hi k : ℕ) : Type 0 where
+  pub from : lo ≤ k
+  pub to : k < hi
+  pub found : loud row (pos k) ≡ true
+  pub after : Throughout row false (k + 1) hi

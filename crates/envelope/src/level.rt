@@ -6,7 +6,9 @@ ghost use Rattle.base.specs.Loop.{each};
 ghost use Rattle.roots.specs.Sqrt.{sqrt as sqrt_of};
 ghost use Rattle.envelope.specs.Envelope.{squares as squares_of, level as level_of, levels as levels_of, frames, hop_f};
 ghost use Rattle.envelope.specs.Parts.{NoNan, Summed, stored};
+ghost use Rattle.envelope.specs.Sound.{SameLists};
 
+use super::sound::{FourFrames, Sound};
 use base::HOP;
 use std::num::f32_to_f64_with_nan;
 
@@ -35,31 +37,30 @@ fn squares(frame: &[f32]) -> f64
 }
 
 // No sample of four frames is a NaN: a test of each, for by `all`, which ends early, it took nearly a third longer.
-fn no_nan(part: &[f32]) -> bool
-    requires { length part.now ≡ 640 }
-    ensures { result ≡ true → NoNan part.now }
+fn no_nan(part: FourFrames<'_>) -> bool
+    ensures { result ≡ true → NoNan part.entry.samples.now }
 {
     let mut ok = true;
     for i in 0..FOUR_HOPS {
-        ok &= !part[i].is_nan();
+        ok &= !part.samples[i].is_nan();
     }
     ok
 }
 
 // The squares of four frames that hold no NaN, each frame's added in order from 0, the four sums side by side.
-fn squares_side_by_side(part: &[f32]) -> Four
-    requires { (length part.now ≡ 640) × NoNan part.now }
-    ensures { Summed part.now result }
+fn squares_side_by_side(part: FourFrames<'_>) -> Four
+    requires { NoNan part.samples.now }
+    ensures { Summed part.entry.samples.now result }
 {
     let mut first = 0.0;
     let mut second = 0.0;
     let mut third = 0.0;
     let mut fourth = 0.0;
     for i in 0..HOP {
-        let w = part[i] as f64;
-        let x = part[160 + i] as f64;
-        let y = part[320 + i] as f64;
-        let z = part[480 + i] as f64;
+        let w = part.samples[i] as f64;
+        let x = part.samples[160 + i] as f64;
+        let y = part.samples[320 + i] as f64;
+        let z = part.samples[480 + i] as f64;
         first += w * w;
         second += x * x;
         third += y * y;
@@ -74,14 +75,13 @@ fn squares_side_by_side(part: &[f32]) -> Four
 }
 
 // The squares of four frames, one frame after another.
-fn squares_in_turn(part: &[f32]) -> Four
-    requires { length part.now ≡ 640 }
-    ensures { Summed part.now result }
+fn squares_in_turn(part: FourFrames<'_>) -> Four
+    ensures { Summed part.entry.samples.now result }
 {
-    let first = squares(&part[0..160]);
-    let second = squares(&part[160..320]);
-    let third = squares(&part[320..480]);
-    let fourth = squares(&part[480..640]);
+    let first = squares(&part.samples[0..160]);
+    let second = squares(&part.samples[160..320]);
+    let third = squares(&part.samples[320..480]);
+    let fourth = squares(&part.samples[480..640]);
     Four {
         first,
         second,
@@ -91,9 +91,8 @@ fn squares_in_turn(part: &[f32]) -> Four
 }
 
 // The squares of four frames: in turn where a sample is a NaN, which no plain cast widens.
-fn four_squares(part: &[f32]) -> Four
-    requires { length part.now ≡ 640 }
-    ensures { Summed part.now result }
+fn four_squares(part: FourFrames<'_>) -> Four
+    ensures { Summed part.entry.samples.now result }
 {
     if no_nan(part) {
         return squares_side_by_side(part);
@@ -116,50 +115,65 @@ fn level(frame: &[f32]) -> f64
 }
 
 // Writes the levels of four frames from frame k on to their places.
-fn store_four(samples: &[f32], levels: &mut [f64], k: usize)
-    requires { (length samples.now ≤ 57600000) × ((k * 160 + 640 ≤ length samples.now) × (k + 4 ≤ length levels.old)) }
-    ensures { levels.new ≡ each (stored samples.now) 4 k levels.old }
+fn store_four(s: &mut Sound<'_>, k: usize)
+    requires { k * 160 + 640 ≤ length s.old.samples.now }
+    ensures same { SameLists s.old s.new }
+    ensures stored { s.new.levels.now ≡ each (stored s.old.samples.now) 4 k s.old.levels.now }
 {
     let from = k * HOP;
     let to = from + FOUR_HOPS;
-    let sums = four_squares(&samples[from..to]);
-    levels[k] = root_mean(sums.first);
-    levels[k + 1] = root_mean(sums.second);
-    levels[k + 2] = root_mean(sums.third);
-    levels[k + 3] = root_mean(sums.fourth);
+    let sums = four_squares(FourFrames {
+        samples: &s.samples[from..to],
+    });
+    s.levels[k] = root_mean(sums.first);
+    s.levels[k + 1] = root_mean(sums.second);
+    s.levels[k + 2] = root_mean(sums.third);
+    s.levels[k + 3] = root_mean(sums.fourth);
 }
 
 // Writes the levels of the frames, four at a time; how many it wrote.
-fn fill_fours(samples: &[f32], levels: &mut [f64]) -> usize
-    requires { (length samples.now ≤ 57600000) × (frames samples.now ≤ length levels.old) }
-    ensures { (result ≤ frames samples.now)
-        × (each (stored samples.now) (frames samples.now) 0 levels.old
-        ≡ each (stored samples.now) (frames samples.now - result) result levels.new) }
+fn fill_fours(s: &mut Sound<'_>) -> usize
+    ensures same { SameLists s.old s.new }
+    ensures stored { let samples = s.old.samples.now in
+        (result ≤ frames samples)
+        × (each (stored samples) (frames samples) 0 s.old.levels.now
+        ≡ each (stored samples) (frames samples - result) result s.new.levels.now) }
 {
-    let fours = samples.len() / FOUR_HOPS;
+    let fours = s.samples.len() / FOUR_HOPS;
     for i in 0..fours {
-        store_four(samples, levels, i * 4);
+        store_four(s, i * 4);
     }
     fours * 4
 }
 
 // Writes the levels of the frames from frame `from` on.
-fn fill_rest(samples: &[f32], levels: &mut [f64], from: usize)
-    requires { (length samples.now ≤ 57600000) × (frames samples.now ≤ length levels.old) }
-    ensures { levels.new ≡ each (stored samples.now) (frames samples.now - from) from levels.old }
+fn fill_rest(s: &mut Sound<'_>, from: usize)
+    ensures same { SameLists s.old s.new }
+    ensures stored { let samples = s.old.samples.now in
+        s.new.levels.now ≡ each (stored samples) (frames samples - from) from s.old.levels.now }
 {
-    for k in from..samples.len() / HOP {
+    for k in from..s.samples.len() / HOP {
         let a = k * HOP;
         let b = a + HOP;
-        levels[k] = level(&samples[a..b]);
+        s.levels[k] = level(&s.samples[a..b]);
     }
+}
+
+// Writes the level of each frame to its place.
+fn fill_all(s: &mut Sound<'_>)
+    ensures same { SameLists s.old s.new }
+    ensures filled { let samples = s.old.samples.now in
+        s.new.levels.now ≡ levels_of samples ++ drop (frames samples) s.old.levels.now }
+{
+    let k = fill_fours(s);
+    fill_rest(s, k);
 }
 
 // Writes the level of each frame to its place (envelope.rs, envelope).
 pub fn fill(samples: &[f32], levels: &mut [f64])
-    requires { (length samples.now ≤ 57600000) × (frames samples.now ≤ length levels.old) }
+    requires { frames samples.now ≤ length levels.old }
     ensures { levels.new ≡ levels_of samples.now ++ drop (frames samples.now) levels.old }
 {
-    let k = fill_fours(samples, levels);
-    fill_rest(samples, levels, k);
+    let mut s = Sound { samples, levels };
+    fill_all(&mut s);
 }

@@ -8,7 +8,9 @@ ghost use Rattle.envelope.specs.Envelope.{frames, levels as levels_of, floor as 
 use base::{HOP, Refusal};
 
 pub mod floor;
+pub mod frame_range;
 pub mod level;
+pub mod sound;
 pub mod view;
 
 // The first refusal that applies, of 4 and 6.
@@ -27,7 +29,7 @@ fn judge(samples: &[f32], levels: &[f64]) -> Result<(), Refusal>
 
 // The levels of a recording that is within the limits, in their places, and the floor under them, which is given back.
 pub fn hear(samples: &[f32], levels: &mut [f64]) -> f64
-    requires { (length samples.now ≤ 57600000) × (frames samples.now ≤ length levels.old) }
+    requires { frames samples.now ≤ length levels.old }
     ensures { (levels.new
         ≡ levels_of samples.now ++ drop (frames samples.now) levels.old)
         × (result ≡ floor_of (levels_of samples.now)) }

@@ -1,8 +1,12 @@
 // An envelope: its levels and its floor together, with the sample count, and what is asked of it (document 01; envelope.rs, Envelope).
-ghost use Rattle.std.specs.Prelude.{◌≡◌, false, length, slice_index_or};
+ghost use Rattle.std.specs.Prelude.{◌≡◌, false, not, length, min, slice_index_or, MatchOption};
+ghost use Rattle.base.specs.Whole.{to_nat};
+ghost use Rattle.frames.specs.Frames.{frame_at};
 ghost use Rattle.envelope.specs.Envelope.{own_floor};
 ghost use Rattle.envelope.specs.Frames.{loud_in};
-ghost use Rattle.envelope.specs.Parts.{Met, Past};
+ghost use Rattle.envelope.specs.Parts.{Throughout, IsFirst, IsLast};
+
+use super::frame_range::FrameRange;
 
 // The levels of a recording of `count` samples, and the floor under them.
 #[derive(Clone, Copy)]
@@ -45,29 +49,39 @@ impl<'a> Envelope<'a> {
         super::floor::own_floor(self.levels, self.floor)
     }
 
-    // The first frame from lo to before hi that is loud, or that is not; where there is none, the end of the search
-    // (an `Option` would be no plainer: the tails measure from there, and the onsets stop there).
-    pub fn first_frame(self, want: bool, lo: usize, hi: usize) -> usize
-        ensures { Met (loud_in self.entry) want lo hi result }
+    // The frames from that of one time, frame 0 at the earliest, to before that of another, as far as there are frames.
+    pub fn between(self, from: f64, to: f64) -> FrameRange
+        ensures { (result.lo ≡ to_nat (frame_at from)) × (result.hi ≡ min (length self.entry.levels.now) (to_nat (frame_at to))) }
+    {
+        FrameRange {
+            lo: frames::index_at(from),
+            hi: self.levels.len().min(frames::index_at(to)),
+        }
+    }
+
+    // The first frame from lo to before hi that is loud, or that is not, if there is one.
+    pub fn first_frame(self, want: bool, lo: usize, hi: usize) -> Option<usize>
+        ensures { let row = loud_in self.entry in
+            MatchOption result (Throughout row (not want) lo hi) (IsFirst row want lo hi) }
     {
         for k in lo..hi {
             if self.loud(k) == want {
-                return k;
+                return Some(k);
             }
         }
-        lo.max(hi)
+        None
     }
 
-    // The frame past the last loud one from lo to before hi; lo where there is none (an `Option` would be no plainer:
-    // the sound then ends where it stood).
-    pub fn last_frame(self, lo: usize, hi: usize) -> usize
-        ensures { Past (loud_in self.entry) lo hi result }
+    // The last loud frame from lo to before hi, if there is one.
+    pub fn last_frame(self, lo: usize, hi: usize) -> Option<usize>
+        ensures { let row = loud_in self.entry in
+            MatchOption result (Throughout row false lo hi) (IsLast row lo hi) }
     {
         for k in (lo..hi).rev() {
             if self.loud(k) {
-                return k + 1;
+                return Some(k);
             }
         }
-        lo
+        None
     }
 }

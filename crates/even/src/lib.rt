@@ -2,34 +2,36 @@
 #![tactic(auto)]
 
 ghost use Rattle.std.specs.Prelude.{◌≡◌, ◌-◌, ◌<◌, ◌≤◌, length};
-ghost use Rattle.base.specs.Words.{words, edges};
+ghost use Rattle.base.specs.Words.{words};
+ghost use Rattle.base.specs.TimedWords.{edges_of, SameLists};
 ghost use Rattle.word_calls.specs.Calls.{output};
 ghost use Rattle.even.specs.Even.{even_run, even_turn, even_out, even_call};
 
 use base::Refusal;
+use base::timed_words::TimedWords;
 use base::word_lists::WordLists;
-use stretch::Stretch;
+use stretch::{Row, Stretch};
 
 pub mod stretch;
 
 // The words of a run share its time by letters.
-fn even_run(starts: &mut [f64], ends: &mut [f64], letters: &[u32], r: Stretch)
-    requires { (r.first ≤ r.last)
-        × ((r.last < length starts.old)
-        × ((length ends.old ≡ length starts.old)
-        × ((length letters.now ≡ length starts.old) × (length starts.old ≤ 4096)))) }
-    ensures { let before = edges starts.old ends.old in
-        let after = edges starts.new ends.new in
-        after ≡ even_run letters.now r before }
+fn even_run(w: &mut TimedWords<'_>, r: Stretch)
+    requires { (r.first ≤ r.last) × ((r.last < length w.old.starts.now) × (length w.old.starts.now ≤ 4096)) }
+    ensures same { SameLists w.old w.new }
+    ensures evened { edges_of w.new ≡ even_run w.old.weights.now r (edges_of w.old) }
 {
     let a = r.first;
     let e = r.last + 1;
-    let start = starts[a];
-    let total = stretch::sum(letters, a, r.last);
+    let start = w.starts[a];
+    let row = Row {
+        first: a,
+        last: r.last,
+    };
+    let total = stretch::sum(w.weights, row);
     share::share(
-        &mut starts[a..e],
-        &mut ends[a..e],
-        &letters[a..e],
+        &mut w.starts[a..e],
+        &mut w.ends[a..e],
+        &w.weights[a..e],
         r.to - start,
         total,
         start,
@@ -37,32 +39,31 @@ fn even_run(starts: &mut [f64], ends: &mut [f64], letters: &[u32], r: Stretch)
 }
 
 // Evens the run of word i where it is crushed; the word to look at next.
-fn even_turn(starts: &mut [f64], ends: &mut [f64], letters: &[u32], limit: f64, i: usize) -> usize
-    requires { (i < length starts.old)
-        × ((length ends.old ≡ length starts.old)
-        × ((length letters.now ≡ length starts.old) × (length starts.old ≤ 4096))) }
-    ensures { (record { edges = edges starts.new ends.new; i = result }
-        ≡ even_turn letters.now limit (record { edges = edges starts.old ends.old; i = i }))
+#[tactic(auto, unfolding(crate::specs::Even::even_turn))]
+fn even_turn(w: &mut TimedWords<'_>, limit: f64, i: usize) -> usize
+    requires { (i < length w.old.starts.now) × (length w.old.starts.now ≤ 4096) }
+    ensures same { SameLists w.old w.new }
+    ensures evened { (record { edges = edges_of w.new; i = result }
+        ≡ even_turn w.old.weights.now limit (record { edges = edges_of w.old; i = i }))
         × (i < result) }
 {
-    if stretch::is_crushed(starts, ends, i) {
-        let r = stretch::stretch_of(starts, ends, letters, limit, i);
-        even_run(starts, ends, letters, r);
+    if stretch::is_crushed(w, i) {
+        let r = stretch::stretch_of(w, limit, i);
+        even_run(w, r);
         return r.last + 1;
     }
     i + 1
 }
 
 // Shares out the time of each run of crushed words (even.rs, even_out); nothing is checked.
-pub fn even_words(starts: &mut [f64], ends: &mut [f64], letters: &[u32], limit: f64)
-    requires { (length ends.old ≡ length starts.old) × ((length letters.now ≡ length starts.old) × (length starts.old ≤ 4096)) }
-    ensures { let before = edges starts.old ends.old in
-        let after = edges starts.new ends.new in
-        after ≡ even_out letters.now limit before }
+pub fn even_words(w: &mut TimedWords<'_>, limit: f64)
+    requires { length w.old.starts.now ≤ 4096 }
+    ensures same { SameLists w.old w.new }
+    ensures evened { edges_of w.new ≡ even_out w.old.weights.now limit (edges_of w.old) }
 {
     let mut i = 0;
-    while i < letters.len() {
-        i = even_turn(starts, ends, letters, limit, i);
+    while i < w.weights.len() {
+        i = even_turn(w, limit, i);
     }
 }
 
@@ -89,6 +90,11 @@ pub fn even_out(
         },
         limit,
     )?;
-    even_words(starts, ends, letters, limit);
+    let mut w = TimedWords {
+        starts,
+        ends,
+        weights: letters,
+    };
+    even_words(&mut w, limit);
     Ok(())
 }

@@ -1,12 +1,13 @@
 // The run of words that a crushed word shares its time with: where it starts, and where it ends (even.rs, even_out).
-ghost use Rattle.std.specs.Prelude.{◌≡◌, ◌&&◌, List, ◌-◌, ◌<◌, ◌≤◌, ltb, length, Float};
+ghost use Rattle.std.specs.Prelude.{◌≡◌, ◌&&◌, ◌-◌, ◌<◌, ◌≤◌, ltb, length};
 ghost use Rattle.std.specs.Float.Ieee.{lt};
 ghost use Rattle.base.specs.Floats.{◌⊗◌};
-ghost use Rattle.base.specs.Words.{edges};
+ghost use Rattle.base.specs.TimedWords.{edges_of};
 ghost use Rattle.even.specs.Even.{min_letter, max_span, sum as sum_of, crushed, swollen, first_crushed, with_swollen, last_crushed};
 ghost use Rattle.even.specs.Even.{grown as grown_to, ceiling_of, borrowed as borrowed_to, end_of, stretch_of};
 
 use base::MIN_LETTER;
+use base::timed_words::TimedWords;
 
 // A word of fewer seconds is crushed.
 const CRUSHED: f64 = 0.08;
@@ -27,47 +28,61 @@ pub struct Stretch {
     pub to: f64,
 }
 
+// Words in a row, from the first to the last.
+#[derive(Clone, Copy)]
+pub struct Row {
+    pub first: usize,
+    pub last: usize,
+    pub ghost ordered: { first ≤ last },
+}
+
 // A word that is too short to have been said.
-pub fn is_crushed(starts: &[f64], ends: &[f64], i: usize) -> bool
-    requires { (i < length starts.now) × (i < length ends.now) }
-    ensures { result ≡ crushed (edges starts.now ends.now) i }
+#[tactic(auto, unfolding(crate::specs::Even::crushed))]
+pub(crate) fn is_crushed(w: &TimedWords<'_>, i: usize) -> bool
+    requires { i < length w.now.starts.now }
+    ensures { result ≡ crushed (edges_of w.now) i }
 {
-    ends[i] - starts[i] < CRUSHED
+    w.ends[i] - w.starts[i] < CRUSHED
 }
 
 // A word that lasts longer than its letters can take.
-fn is_swollen(starts: &[f64], ends: &[f64], letters: &[u32], i: usize) -> bool
-    requires { (i < length starts.now) × ((i < length ends.now) × (i < length letters.now)) }
-    ensures { result ≡ swollen letters.now (edges starts.now ends.now) i }
+#[tactic(auto, unfolding(crate::specs::Even::swollen))]
+fn is_swollen(w: &TimedWords<'_>, i: usize) -> bool
+    requires { i < length w.now.starts.now }
+    ensures { result ≡ swollen w.now.weights.now (edges_of w.now) i }
 {
-    ends[i] - starts[i] > SWOLLEN_BASE + SLOW_LETTER * (letters[i] as f64)
+    w.ends[i] - w.starts[i] > SWOLLEN_BASE + SLOW_LETTER * (w.weights[i] as f64)
 }
 
-// The letters of words a to b.
-pub fn sum(letters: &[u32], a: usize, b: usize) -> f64
-    requires { (a ≤ b) × ((b < length letters.now) × (length letters.now ≤ 4096)) }
-    ensures { result ≡ sum_of letters.now a b }
+// The letters of words in a row.
+#[tactic(auto, unfolding(crate::specs::Even::sum))]
+pub fn sum(letters: &[u32], row: Row) -> f64
+    requires { (row.last < length letters.now) × (length letters.now ≤ 4096) }
+    ensures { result ≡ sum_of letters.now row.first row.last }
 {
-    share::total(&letters[a..b + 1])
+    share::total(&letters[row.first..row.last + 1])
 }
 
 // The first of the crushed words that stand in a row before word i.
-fn first_crushed(starts: &[f64], ends: &[f64], i: usize) -> usize
-    requires { (i ≤ length starts.now) × (i ≤ length ends.now) }
-    ensures { (result ≡ first_crushed (edges starts.now ends.now) i) × (result ≤ i) }
+fn first_crushed(w: &TimedWords<'_>, i: usize) -> usize
+    requires { i ≤ length w.now.starts.now }
+    ensures { (result ≡ first_crushed (edges_of w.now) i) × (result ≤ i) }
 {
-    (1..=i)
-        .rev()
-        .find(|&a| !is_crushed(starts, ends, a - 1))
-        .unwrap_or(0)
+    for a in (1..=i).rev() {
+        if !is_crushed(w, a - 1) {
+            return a;
+        }
+    }
+    0
 }
 
 // A run from word a on takes the word before it along where that one is swollen.
-fn with_swollen(starts: &[f64], ends: &[f64], letters: &[u32], a: usize) -> usize
-    requires { (a ≤ length starts.now) × ((a ≤ length ends.now) × (a ≤ length letters.now)) }
-    ensures { (result ≡ with_swollen letters.now (edges starts.now ends.now) a) × (result ≤ a) }
+#[tactic(auto, unfolding(crate::specs::Even::with_swollen))]
+fn with_swollen(w: &TimedWords<'_>, a: usize) -> usize
+    requires { a ≤ length w.now.starts.now }
+    ensures { (result ≡ with_swollen w.now.weights.now (edges_of w.now) a) × (result ≤ a) }
 {
-    if a > 0 && is_swollen(starts, ends, letters, a - 1) {
+    if a > 0 && is_swollen(w, a - 1) {
         a - 1
     } else {
         a
@@ -75,89 +90,96 @@ fn with_swollen(starts: &[f64], ends: &[f64], letters: &[u32], a: usize) -> usiz
 }
 
 // The last of the crushed words that stand in a row after word i.
-fn last_crushed(starts: &[f64], ends: &[f64], i: usize) -> usize
-    requires { (i < length starts.now) × (length ends.now ≡ length starts.now) }
-    ensures { let before = edges starts.now ends.now in
-        (result ≡ last_crushed before (length starts.now) i) × ((i ≤ result) × (result < length starts.now)) }
+fn last_crushed(w: &TimedWords<'_>, i: usize) -> usize
+    requires { i < length w.now.starts.now }
+    ensures { let len = length w.now.starts.now in
+        (result ≡ last_crushed (edges_of w.now) len i) × ((i ≤ result) × (result < len)) }
 {
-    let end = starts.len() - 1;
-    (i..end)
-        .find(|&b| !is_crushed(starts, ends, b + 1))
-        .unwrap_or(end)
+    let end = w.starts.len() - 1;
+    for b in i..end {
+        if !is_crushed(w, b + 1) {
+            return b;
+        }
+    }
+    end
 }
 
-// So much room is too little for words a to b, which may yet take another word along.
-fn cramped(letters: &[u32], room: f64, a: usize, b: usize) -> bool
-    requires { (a ≤ b) × ((b < length letters.now) × (length letters.now ≤ 4096)) }
-    ensures { result ≡ (lt room (min_letter ⊗ sum_of letters.now a b) && ltb (b - a) max_span) }
+// So much room is too little for words in a row, which may yet take another word along.
+fn cramped(letters: &[u32], room: f64, row: Row) -> bool
+    requires { (row.last < length letters.now) × (length letters.now ≤ 4096) }
+    ensures { let needed = min_letter ⊗ sum_of letters.now row.first row.last in
+        result ≡ (lt room needed && ltb (row.last - row.first) max_span) }
 {
-    b - a < MAX_SPAN && room < MIN_LETTER * sum(letters, a, b)
+    row.last - row.first < MAX_SPAN && room < MIN_LETTER * sum(letters, row)
 }
 
-// The last word of a run from a to b that takes words after it along while it has too little room before them.
-fn grown(starts: &[f64], letters: &[u32], a: usize, b: usize) -> usize
-    requires { (a ≤ b) × ((b < length starts.now) × ((length letters.now ≡ length starts.now) × (length starts.now ≤ 4096))) }
-    ensures { ((ends : List Float)
-        → result ≡ grown_to letters.now (edges starts.now ends) (length starts.now) a b)
-        × ((b ≤ result) × (result < length starts.now)) }
+// The last word of a run that takes words after it along while it has too little room before them.
+fn grown(w: &TimedWords<'_>, row: Row) -> usize
+    requires { (row.last < length w.now.starts.now) × (length w.now.starts.now ≤ 4096) }
+    ensures { let len = length w.now.starts.now in
+        (result ≡ grown_to w.now.weights.now (edges_of w.now) len row.first row.last)
+        × ((row.last ≤ result) × (result < len)) }
 {
-    let from = starts[a];
-    let end = starts.len() - 1;
-    (b..end)
-        .find(|&e| !cramped(letters, starts[e + 1] - from, a, e))
-        .unwrap_or(end)
+    let first = row.first;
+    let from = w.starts[first];
+    let end = w.starts.len() - 1;
+    for last in row.last..end {
+        if !cramped(w.weights, w.starts[last + 1] - from, Row { first, last }) {
+            return last;
+        }
+    }
+    end
 }
 
 // The time that a run up to word b must not pass: the next word's start, or the limit.
-fn ceiling(starts: &[f64], ends: &[f64], letters: &[u32], limit: f64, b: usize) -> f64
-    requires { (b < length starts.now)
-        × ((length ends.now ≡ length starts.now)
-        × ((length letters.now ≡ length starts.now) × (length starts.now ≤ 4096))) }
-    ensures { result ≡ ceiling_of letters.now (edges starts.now ends.now) limit (length starts.now) b }
+#[tactic(auto, unfolding(crate::specs::Even::ceiling_of))]
+fn ceiling(w: &TimedWords<'_>, limit: f64, b: usize) -> f64
+    requires { b < length w.now.starts.now }
+    ensures { result ≡ ceiling_of w.now.weights.now (edges_of w.now) limit (length w.now.starts.now) b }
 {
-    if b + 1 < starts.len() {
-        return starts[b + 1];
+    if b + 1 < w.starts.len() {
+        return w.starts[b + 1];
     }
-    js::js_min(limit, ends[b] + SLOW_LETTER * (letters[b] as f64))
+    js::js_min(limit, w.ends[b] + SLOW_LETTER * (w.weights[b] as f64))
 }
 
-// The first word of a run from a to b that takes words before it along while it has too little room up to the ceiling.
-fn borrowed(starts: &[f64], letters: &[u32], ceiling: f64, b: usize, a: usize) -> usize
-    requires { (a ≤ b) × ((b < length starts.now) × ((length letters.now ≡ length starts.now) × (length starts.now ≤ 4096))) }
-    ensures { ((ends : List Float) → result ≡ borrowed_to letters.now (edges starts.now ends) ceiling b a) × (result ≤ a) }
+// The first word of a run that takes words before it along while it has too little room up to the ceiling.
+fn borrowed(w: &TimedWords<'_>, ceiling: f64, row: Row) -> usize
+    requires { (row.last < length w.now.starts.now) × (length w.now.starts.now ≤ 4096) }
+    ensures { (result ≡ borrowed_to w.now.weights.now (edges_of w.now) ceiling row.last row.first) × (result ≤ row.first) }
 {
-    (1..=a)
-        .rev()
-        .find(|&f| !cramped(letters, ceiling - starts[f], f, b))
-        .unwrap_or(0)
+    let last = row.last;
+    for first in (1..=row.first).rev() {
+        if !cramped(w.weights, ceiling - w.starts[first], Row { first, last }) {
+            return first;
+        }
+    }
+    0
 }
 
-// Where the last word of a run from a to b ends: not past the ceiling nor later than said slowly, and not before it did.
-fn run_end(starts: &[f64], ends: &[f64], letters: &[u32], ceiling: f64, a: usize, b: usize) -> f64
-    requires { (a ≤ b)
-        × ((b < length starts.now)
-        × ((length ends.now ≡ length starts.now)
-        × ((length letters.now ≡ length starts.now) × (length starts.now ≤ 4096)))) }
-    ensures { result ≡ end_of letters.now (edges starts.now ends.now) ceiling a b }
+// Where the last word of a run ends: not past the ceiling nor later than said slowly, and not before it did.
+#[tactic(auto, unfolding(crate::specs::Even::end_of))]
+fn run_end(w: &TimedWords<'_>, ceiling: f64, row: Row) -> f64
+    requires { (row.last < length w.now.starts.now) × (length w.now.starts.now ≤ 4096) }
+    ensures { result ≡ end_of w.now.weights.now (edges_of w.now) ceiling row.first row.last }
 {
-    let count = (b - a + 1) as f64;
-    let slow = starts[a] + SLOW_LETTER * sum(letters, a, b) + SLOW_WORD * count;
-    js::js_max(ends[b], js::js_min(ceiling, slow))
+    let count = (row.last - row.first + 1) as f64;
+    let slow = w.starts[row.first] + SLOW_LETTER * sum(w.weights, row) + SLOW_WORD * count;
+    js::js_max(w.ends[row.last], js::js_min(ceiling, slow))
 }
 
 // The run of the crushed word i.
-pub fn stretch_of(starts: &[f64], ends: &[f64], letters: &[u32], limit: f64, i: usize) -> Stretch
-    requires { (i < length starts.now)
-        × ((length ends.now ≡ length starts.now)
-        × ((length letters.now ≡ length starts.now) × (length starts.now ≤ 4096))) }
-    ensures { let before = edges starts.now ends.now in
-        (result ≡ stretch_of letters.now before limit i)
-        × ((result.first ≤ result.last) × ((i ≤ result.last) × (result.last < length starts.now))) }
+#[tactic(auto, unfolding(crate::specs::Even::stretch_of))]
+pub(crate) fn stretch_of(w: &TimedWords<'_>, limit: f64, i: usize) -> Stretch
+    requires { (i < length w.now.starts.now) × (length w.now.starts.now ≤ 4096) }
+    ensures { (result ≡ stretch_of w.now.weights.now (edges_of w.now) limit i)
+        × ((result.first ≤ result.last) × ((i ≤ result.last) × (result.last < length w.now.starts.now))) }
 {
-    let a = with_swollen(starts, ends, letters, first_crushed(starts, ends, i));
-    let b = grown(starts, letters, a, last_crushed(starts, ends, i));
-    let top = ceiling(starts, ends, letters, limit, b);
-    let first = borrowed(starts, letters, top, b, a);
-    let to = run_end(starts, ends, letters, top, first, b);
-    Stretch { first, last: b, to }
+    let a = with_swollen(w, first_crushed(w, i));
+    let b = last_crushed(w, i);
+    let last = grown(w, Row { first: a, last: b });
+    let top = ceiling(w, limit, last);
+    let first = borrowed(w, top, Row { first: a, last });
+    let to = run_end(w, top, Row { first, last });
+    Stretch { first, last, to }
 }

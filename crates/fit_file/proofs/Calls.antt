@@ -1,6 +1,6 @@
--- The call `fit_file_at` in plain words, and for the code what its tests found. By the laws of calls that move only times. Assumes nothing.
+-- The call `fit_file` in plain words, and for the code what its tests found. By the laws of calls that move only times. Assumes nothing.
 use Rattle.std.specs.Prelude.{Ok, Err, IsErrAnd}
-use Prim.Native.Nat.{ℕ, ◌≤◌, ◌^◌, min}
+use Prim.Native.Nat.{ℕ, ◌≤◌, min}
 use mathlib.Core.Path.{◌≡◌, sym, ◌∙◌}
 use mathlib.Core.Logic.{◌↔◌}
 use mathlib.Core.List.{List, [], ◌∷◌}
@@ -60,14 +60,16 @@ module _ (ws : Words) (phrases : ℕ) (spans : Spans) (levels samples starts end
   pub short : samples ≤ 57600000
   short = within.0.1.0
 
-  pub ready : (length ws.ends ≡ length ws.starts) × ((length ws.letters ≡ length ws.starts) × ((phrases ≡ length ws.starts) × ((length ws.starts ≤ 4096) × ((levels ≤ 2 ^ 40)
-      × ((length ws.starts ≤ starts) × ((length ws.starts ≤ ends) × ((length ws.starts ≤ letters) × ((length spans.ends ≡ length spans.starts) × (length spans.starts ≤ 4096)))))))))
-  ready =
+  pub lent : ((length ws.ends ≡ length ws.starts) × ((length ws.letters ≡ length ws.starts) × (phrases ≡ length ws.starts)))
+      × ((length ws.starts ≤ 4096) × (length ws.starts ≤ work_places starts ends letters))
+  lent =
       let w = within.0.0 in
       let k = w.keys-as-long in
       let n = within.1.1.1 in
-      let s = within.1.1.0 in
-      (w.ends-as-long, (w.letters-as-long, (within.1.0, (w.few, (moves.few-levels within.0.1, (omega arith, (omega arith, (omega arith, (s.ends-as-long, s.few)))))))))
+      ((w.ends-as-long, (w.letters-as-long, within.1.0)), (w.few, omega arith))
+
+  pub ready : (length spans.ends ≡ length spans.starts) × (length spans.starts ≤ 4096)
+  ready = let s = within.1.1.0 in (s.ends-as-long, s.few)
 
 -- ---- and what it answers and leaves
 module _ (ws : Words) (phrases : List ℕ) (spans : Spans) (levels : List Float) (floor : Float) (samples starts ends letters : ℕ) {found : Rule} {inner places : ℕ}

@@ -91,9 +91,6 @@ module _ (phrases : List ℕ) (p : ℕ) where
       pub holds-next : Holds (member_turn phrases p i (members_of phrases p i)) es letters n ws we wl → Holds (members_of phrases p (i + 1)) es letters n ws we wl
       holds-next h = rw (members-next i) at h
 
-      pub holds-all : (e : ℕ) → i ≡ e → Holds (members_of phrases p i) es letters n ws we wl → Holds (members_of phrases p e) es letters n ws we wl
-      holds-all e z h = rw z at h
-
   module _ (group es : Edges) where
     pub put-none : Put (members_of phrases p 0) group es 0 es
     unfolding members_of each put_edges put_back

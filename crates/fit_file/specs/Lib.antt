@@ -1,3 +1,4 @@
 -- The fit by phrase.
 pub mod FitFile
 pub mod Parts
+pub mod PhrasedWords

@@ -13,12 +13,15 @@ use base::spans::Spans;
 use base::word_lists::WordLists;
 use envelope::view::Envelope;
 use frames::RATE;
+use phrased_words::PhrasedWords;
 
 pub mod each_phrase;
 pub mod group;
 pub mod one_phrase;
+pub mod phrased_words;
 
 // How long a recording of so many samples is, in seconds.
+#[tactic(auto, unfolding(crate::specs::FitFile::duration_of))]
 pub fn duration_of(count: usize) -> f64
     requires { count ≤ 57600000 }
     ensures { result ≡ duration_of count }
@@ -68,18 +71,15 @@ pub fn fit_file(
         places,
         keys.len(),
     )?;
-    each_phrase::fit_phrases(
+    let mut w = PhrasedWords {
         starts,
         ends,
         letters,
         phrases,
-        spans.starts,
-        spans.ends,
-        e,
-        duration_of(e.count),
         work_starts,
         work_ends,
         work_letters,
-    );
+    };
+    each_phrase::fit_phrases(&mut w, spans.starts, spans.ends, e, duration_of(e.count));
     Ok(())
 }

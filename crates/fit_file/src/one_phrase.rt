@@ -1,10 +1,12 @@
 // The words of one phrase, fitted to their sound and kept inside their span (fit.rs, fit_file).
-ghost use Rattle.std.specs.Prelude.{◌≡◌, ◌<◌, ◌≤◌, ◌^◌, length};
-ghost use Rattle.base.specs.Words.{edges, times};
+ghost use Rattle.std.specs.Prelude.{◌≡◌, ◌<◌, ◌≤◌, length};
+ghost use Rattle.base.specs.Words.{edges};
+ghost use Rattle.base.specs.TimedWords.{edges_of, SameLists};
 ghost use Rattle.fit_file.specs.FitFile.{inside_span, keep_inside, make_way, take_sound, take_run, take_trailing, fit_group};
 ghost use Rattle.envelope.specs.Frames.{loud_in};
 
 use base::Times;
+use base::timed_words::TimedWords;
 use envelope::view::Envelope;
 
 // A phrase's words last so many seconds at the least.
@@ -13,106 +15,111 @@ const MIN_WORD: f64 = 0.04;
 const TRAILING_GAP: f64 = 0.15;
 
 // A word kept inside its span, 0.04 s long at the least.
-fn inside_span(from: f64, to: f64, w: Times) -> Times
-    ensures { result ≡ inside_span (times from to) w }
+#[tactic(auto, unfolding(crate::specs::FitFile::inside_span))]
+fn inside_span(span: Times, w: Times) -> Times
+    ensures { result ≡ inside_span span w }
 {
-    let start = js::js_min(js::js_max(w.start, from), to - MIN_WORD);
+    let start = js::js_min(js::js_max(w.start, span.start), span.end - MIN_WORD);
     Times {
         start,
-        end: js::js_min(js::js_max(w.end, start + MIN_WORD), to),
+        end: js::js_min(js::js_max(w.end, start + MIN_WORD), span.end),
     }
 }
 
 // Keeps each word of a phrase inside its span.
-fn keep_inside(starts: &mut [f64], ends: &mut [f64], from: f64, to: f64)
-    requires { length ends.old ≡ length starts.old }
-    ensures { edges starts.new ends.new ≡ keep_inside (times from to) (edges starts.old ends.old) }
+fn keep_inside(w: &mut TimedWords<'_>, span: Times)
+    ensures same { SameLists w.old w.new }
+    ensures inside { edges_of w.new ≡ keep_inside span (edges_of w.old) }
 {
-    for i in 0..starts.len() {
-        let w = Times {
-            start: starts[i],
-            end: ends[i],
-        };
-        let t = inside_span(from, to, w);
-        starts[i] = t.start;
-        ends[i] = t.end;
+    for i in 0..w.starts.len() {
+        w.put(i, inside_span(span, w.at(i)));
     }
 }
 
 // The word before the last ends where that starts, if it ended later.
-fn make_way(ends: &mut [f64], last: usize, start: f64)
-    requires { last < length ends.old }
-    ensures { ends.new ≡ make_way last start ends.old }
+#[tactic(auto, unfolding(crate::specs::FitFile::make_way))]
+fn make_way(w: &mut TimedWords<'_>, last: usize, start: f64)
+    requires { last < length w.old.ends.now }
+    ensures same { SameLists w.old w.new }
+    ensures made { edges_of w.new ≡ edges w.old.starts.now (make_way last start w.old.ends.now) }
 {
     if 0 < last {
-        ends[last - 1] = js::js_min(ends[last - 1], start);
+        w.ends[last - 1] = js::js_min(w.ends[last - 1], start);
     }
 }
 
 // The last word takes a sound after it.
-fn take_sound(starts: &mut [f64], ends: &mut [f64], last: usize, w: Times)
-    requires { (last < length starts.old) × (length ends.old ≡ length starts.old) }
-    ensures { edges starts.new ends.new ≡ take_sound last w (edges starts.old ends.old) }
+#[tactic(auto, unfolding(crate::specs::FitFile::take_sound))]
+fn take_sound(w: &mut TimedWords<'_>, sound: Times, last: usize)
+    requires { last < length w.old.starts.now }
+    ensures same { SameLists w.old w.new }
+    ensures taken { edges_of w.new ≡ take_sound last sound (edges_of w.old) }
 {
-    starts[last] = w.start;
-    ends[last] = w.end;
-    make_way(ends, last, w.start);
+    w.put(last, sound);
+    make_way(w, last, sound.start);
 }
 
 // The last word takes a sound, where it starts after `after`.
-fn take_late(starts: &mut [f64], ends: &mut [f64], w: Times, after: f64, last: usize)
-    requires { (last < length starts.old) × (length ends.old ≡ length starts.old) }
-    ensures { let before = edges starts.old ends.old in
-        edges starts.new ends.new ≡ take_run (Some w) after last before }
+#[tactic(auto, unfolding(crate::specs::FitFile::take_run))]
+fn take_late(w: &mut TimedWords<'_>, sound: Times, after: f64, last: usize)
+    requires { last < length w.old.starts.now }
+    ensures same { SameLists w.old w.new }
+    ensures taken { edges_of w.new ≡ take_run (Some sound) after last (edges_of w.old) }
 {
-    if w.start > after {
-        take_sound(starts, ends, last, w);
+    if sound.start > after {
+        take_sound(w, sound, last);
     }
 }
 
 // The last word takes a run of sound, where there is one and it starts after `after`.
 #[tactic(auto, unfolding(crate::specs::FitFile::take_run))]
-fn take_run(starts: &mut [f64], ends: &mut [f64], run: Option<Times>, after: f64, last: usize)
-    requires { (last < length starts.old) × (length ends.old ≡ length starts.old) }
-    ensures { edges starts.new ends.new ≡ take_run run after last (edges starts.old ends.old) }
+fn take_run(w: &mut TimedWords<'_>, run: Option<Times>, after: f64, last: usize)
+    requires { last < length w.old.starts.now }
+    ensures same { SameLists w.old w.new }
+    ensures taken { edges_of w.new ≡ take_run run after last (edges_of w.old) }
 {
-    if let Some(w) = run {
-        take_late(starts, ends, w, after, last);
+    if let Some(sound) = run {
+        take_late(w, sound, after, last);
     }
 }
 
 // The last word takes the sound at the end of its span that no word has.
-fn take_trailing(starts: &mut [f64], ends: &mut [f64], e: Envelope<'_>, to: f64)
-    requires { (0 < length starts.old) × ((length ends.old ≡ length starts.old) × (length e.levels.now ≤ 2 ^ 40)) }
-    ensures { let before = edges starts.old ends.old in
-        let after = edges starts.new ends.new in
-        after ≡ take_trailing (loud_in e.entry) to before }
+#[tactic(auto, unfolding(crate::specs::FitFile::take_trailing))]
+fn take_trailing(w: &mut TimedWords<'_>, e: Envelope<'_>, to: f64)
+    requires { 0 < length w.old.starts.now }
+    ensures same { SameLists w.old w.new }
+    ensures taken { edges_of w.new ≡ take_trailing (loud_in e.entry) to (edges_of w.old) }
 {
-    let last = starts.len() - 1;
-    let after = ends[last] + TRAILING_GAP;
+    let last = w.starts.len() - 1;
+    let after = w.ends[last] + TRAILING_GAP;
     let run = last_run::run_between(e, after, to);
-    take_run(starts, ends, run, after, last);
+    take_run(w, run, after, last);
 }
 
-// Fits the words of one phrase, of which there are some, in its span from `from` to `to` (fit.rs, fit_file); nothing is checked.
+// Fits the words of one phrase, of which there are some, in its span (fit.rs, fit_file); nothing is checked.
+#[tactic(auto, unfolding(crate::specs::FitFile::fit_group))]
 pub fn fit_group(
     starts: &mut [f64],
     ends: &mut [f64],
     letters: &[u32],
     e: Envelope<'_>,
     duration: f64,
-    from: f64,
-    to: f64,
+    span: Times,
 )
     requires { (0 < length starts.old)
         × ((length ends.old ≡ length starts.old)
-        × ((length letters.now ≡ length starts.old) × ((length starts.old ≤ 4096) × (length e.levels.now ≤ 2 ^ 40)))) }
+        × ((length letters.now ≡ length starts.old) × (length starts.old ≤ 4096))) }
     ensures { let before = edges starts.old ends.old in
         let after = edges starts.new ends.new in
-        after ≡ fit_group (loud_in e.entry) duration (times from to) letters.now before }
+        after ≡ fit_group (loud_in e.entry) duration span letters.now before }
 {
-    fit_to_sound::fit_words(starts, ends, letters, e, js::js_min(duration, to));
-    keep_inside(starts, ends, from, to);
-    take_trailing(starts, ends, e, to);
-    even::even_words(starts, ends, letters, to);
+    let mut w = TimedWords {
+        starts,
+        ends,
+        weights: letters,
+    };
+    fit_to_sound::fit_words(&mut w, e, js::js_min(duration, span.end));
+    keep_inside(&mut w, span);
+    take_trailing(&mut w, e, span.end);
+    even::even_words(&mut w, span.end);
 }

@@ -5,9 +5,9 @@ use mathlib.Core.Bool.{Bool, true, false, cond, not, ◌&&◌}
 use mathlib.Core.List.{List}
 use mathlib.Core.Path.{◌≡◌, refl, ap, ◌∙◌}
 use lib.ListN.{get_or, set}
-use lib.Ieee.{Float, nan, lt, le}
+use lib.Ieee.{Float, lt, le}
 use Rattle.base.specs.Floats.{◌⊕◌, ◌⊖◌, ◌⊗◌, num}
-use Rattle.base.specs.Words.{edges, times, loose}
+use Rattle.base.specs.Words.{Edges, edges, times, times_at, loose}
 use Rattle.base.specs.declared.Times.{Times}
 use Rattle.js.specs.Js.{js_min}
 use Rattle.ends.specs.Ends.{next_start, or_duration}
@@ -64,7 +64,8 @@ ended-start row next letters None w = refl
 ended-start row next letters (Some end) w = lasts-start row next end (cut_back letters end w) ∙ cut-start letters end w
 
 -- ---- what is stored
-pub end-turn : {next : Option Float} {t : Times} (row : List Bool) (duration : Float) (letters : List ℕ) (i : ℕ) (starts ends : List Float) → next ≡ next_start starts i
-    → t ≡ end_of row duration next (get_or letters i 0) (times (get_or starts i nan) (get_or ends i nan)) → edges starts (set ends i t.end) ≡ end_turn row duration letters i (edges starts ends)
+pub end-turn : {next : Option Float} {w t : Times} (row : List Bool) (duration : Float) (letters : List ℕ) (i : ℕ) (es : Edges) → next ≡ next_start es.starts i → w ≡ times_at es i
+    → t ≡ end_of row duration next (get_or letters i 0) w → edges es.starts (set es.ends i t.end) ≡ end_turn row duration letters i es
 unfolding end_turn end_of
-end-turn {next} {t} row duration letters i starts ends en et = set-end t starts ends i (ap (λ (v : Times). v.start) et ∙ ended-start _ _ _ _ _) ∙ rw (et, en)
+end-turn {next} {w} {t} row duration letters i es en ew et =
+    set-end t es.starts es.ends i (ap (λ (v : Times). v.start) et ∙ ended-start _ _ _ _ _ ∙ ap (λ (v : Times). v.start) ew) ∙ rw (rw (ew, en) at et)

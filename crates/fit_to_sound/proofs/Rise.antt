@@ -1,6 +1,6 @@
--- The first frame at which a sound starts: the code looks for it between indices that are cut at 2 ^ 40, and no frame lies beyond. Assumes nothing.
+-- The first frame at which a sound starts: the code looks for it between indices. Assumes nothing.
 use Rattle.std.specs.Prelude.{Option, Some, None}
-use Prim.Native.Nat.{ℕ, ◌+◌, ◌-◌, ◌<◌, ◌≤◌, ◌^◌, min}
+use Prim.Native.Nat.{ℕ, ◌+◌, ◌-◌, ◌<◌, ◌≤◌, min}
 use mathlib.Core.Bool.{Bool, true, false}
 use mathlib.Core.List.{List}
 use mathlib.Core.Path.{◌≡◌, refl, sym, ap, ◌∙◌}
@@ -53,34 +53,20 @@ min_z-pos a b = go (ltb b a) refl where
   go true t = let l = ltb-true b a t in rw t (ap pos (omega arith))
   go false t = let l = ltb-false b a t in rw t (ap pos (omega arith))
 
--- ---- the end of the search, as an index
-module _ (next : Option Float) (last : ℕ) where
-  pub stop-next : {s : Float} {r : ℕ} → next ≡ Some s → r ≡ min (to_nat (frame_at (s ⊖ before_next))) (2 ^ 40) → r ≡ stop_index next last
-  unfolding stop_index
-  stop-next e h = rw e h
-
-  pub stop-last : next ≡ None → last ≡ stop_index next last
-  unfolding stop_index
-  stop-last e = rw e
-
-least-cut : (l a b ahead before stop : ℕ) → l ≤ 2 ^ 40 → ahead ≡ min l (min a (2 ^ 40)) → before ≡ min b (2 ^ 40) → stop ≡ min ahead before → min (min l a) b ≡ stop
-least-cut l a b ahead before stop h ea eb es = omega arith
-
-stop_is : (n : ℕ) → 3 ≤ n → n ≤ 2 ^ 40 → (next : Option Float) (start : Float) {last ahead before stop : ℕ} → last ≡ n - 3
-    → ahead ≡ min last (min (to_nat (frame_at (start ⊕ search_ahead))) (2 ^ 40)) → before ≡ stop_index next last → stop ≡ min ahead before → stop_at (pos n) next start ≡ pos stop
+stop_is : (n : ℕ) → 3 ≤ n → (next : Option Float) (start : Float) {last ahead before stop : ℕ} → last ≡ n - 3
+    → ahead ≡ min last (to_nat (frame_at (start ⊕ search_ahead))) → before ≡ stop_index next last → stop ≡ min ahead before → stop_at (pos n) next start ≡ pos stop
 unfolding stop_at stop_before stop_index
-stop_is n l h (Some s) start el ea eb es =
-    rw (sub-pos n 3 l, from_zero-pos (start ⊕ search_ahead), from_zero-pos (s ⊖ before_next), min_z-pos, min_z-pos)
-    (ap pos (least-cut (n - 3) (to_nat (frame_at (start ⊕ search_ahead))) (to_nat (frame_at (s ⊖ before_next))) _ _ _ (omega arith) (ea ∙ rw el) eb es))
-stop_is n l h None start el ea eb es =
+stop_is n l (Some s) start el ea eb es =
+    rw (sub-pos n 3 l, from_zero-pos (start ⊕ search_ahead), from_zero-pos (s ⊖ before_next), min_z-pos, min_z-pos) (ap pos (omega arith))
+stop_is n l None start el ea eb es =
     rw (sub-pos n 3 l, from_zero-pos (start ⊕ search_ahead), min_z-pos, min_z-pos) (ap pos (omega arith))
 
 -- ---- a word in silence at frame f
-module _ (floor : Float) (levels : List Float) (short : length levels ≤ 2 ^ 40) (f : ℕ) (more : f + 3 < length levels) (next : Option Float) (w : Times)
-    {last ahead before stop k : ℕ} (el : last ≡ length levels - 3) (ea : ahead ≡ min last (min (to_nat (frame_at (w.start ⊕ search_ahead))) (2 ^ 40)))
+module _ (floor : Float) (levels : List Float) (f : ℕ) (more : f + 3 < length levels) (next : Option Float) (w : Times)
+    {last ahead before stop k : ℕ} (el : last ≡ length levels - 3) (ea : ahead ≡ min last (to_nat (frame_at (w.start ⊕ search_ahead))))
     (eb : before ≡ stop_index next last) (es : stop ≡ min ahead before) (ek : pos k ≡ rise_frame (loud_row floor levels) (pos f) (pos stop)) where
   stop-here : stop_at (pos (length (loud_row floor levels))) next w.start ≡ pos stop
-  stop-here = rw (length-row floor levels) (stop_is (length levels) (omega arith) short next w.start el ea eb es)
+  stop-here = rw (length-row floor levels) (stop_is (length levels) (omega arith) next w.start el ea eb es)
 
   pub rise-met : {s : Float} {r : Times} → k < stop → s ≡ frame_seconds (pos k) → r ≡ moved_to s w → r ≡ rise_from (loud_row floor levels) (pos f) next w
   unfolding rise_from
@@ -91,7 +77,7 @@ module _ (floor : Float) (levels : List Float) (short : length levels ≤ 2 ^ 40
   rise-none h = rw (stop-here, ← ek, le-ltb k stop h)
 
 -- ---- a word's start, by the frame it lies in
-module _ (floor : Float) (levels : List Float) (short : length levels ≤ 2 ^ 40) (next : Option Float) (w : Times) (f : ℕ) (is : f ≡ min (to_nat (frame_at w.start)) (2 ^ 40)) where
+module _ (floor : Float) (levels : List Float) (next : Option Float) (w : Times) (f : ℕ) (is : f ≡ to_nat (frame_at w.start)) where
   abbrev row : List Bool
   row = loud_row floor levels
 

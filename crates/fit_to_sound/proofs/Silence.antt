@@ -1,6 +1,6 @@
 -- Silence between two times, and where a sound ends: the code looks at the frames that exist, and its count of quiet frames is the loop's. Assumes nothing.
 use Rattle.std.specs.Prelude.{Option}
-use Prim.Native.Nat.{ℕ, ◌+◌, ◌-◌, ◌<◌, ◌≤◌, ◌^◌, min}
+use Prim.Native.Nat.{ℕ, ◌+◌, ◌-◌, ◌<◌, ◌≤◌, min}
 use mathlib.Core.Bool.{Bool, true, false}
 use mathlib.Core.List.{List}
 use mathlib.Core.Path.{◌≡◌, refl, sym, ap, ◌∙◌}
@@ -12,9 +12,9 @@ use lib.Ieee.{Float}
 use Rattle.base.specs.Whole.{to_nat, min_z}
 use Rattle.base.specs.Words.{end_silence}
 use Rattle.base.specs.Loop.{on, out, run}
-use Rattle.base.proofs.Loops.{range-pos, range-end, run-start, run-next, run-stop, run-done}
+use Rattle.base.proofs.Loops.{min-nat, range-pos, range-end, run-start, run-next, run-stop, run-done}
 use Rattle.frames.specs.Frames.{frame_at, frame_from_zero}
-use Rattle.frames.proofs.Indices.{min_z-index, from_zero-nat}
+use Rattle.frames.proofs.Indices.{from_zero-nat}
 use Rattle.envelope.specs.Envelope.{loud_row}
 use Rattle.envelope.proofs.Scan.{length-row}
 use Rattle.ends.specs.Ends.{last_loud, sound_end}
@@ -63,19 +63,18 @@ module _ (row : List Bool) where
     quiet-done h = sym (is ∙ ap (λ (s : Quiet). s.met) (run-done (quiet_turn row) hi k (running n) h))
 
 -- ---- between two times, where there are frames
-module _ (floor : Float) (levels : List Float) (short : length levels ≤ 2 ^ 40) (from to : Float) {lo hi : ℕ}
-    (islo : lo ≡ min (to_nat (frame_at from)) (2 ^ 40)) (ishi : hi ≡ min (length levels) (min (to_nat (frame_at to)) (2 ^ 40))) where
-  lo-is : lo ≡ min (to_nat (frame_from_zero from)) (2 ^ 40)
+module _ (floor : Float) (levels : List Float) (from to : Float) {lo hi : ℕ} (islo : lo ≡ to_nat (frame_at from)) (ishi : hi ≡ min (length levels) (to_nat (frame_at to))) where
+  lo-is : lo ≡ to_nat (frame_from_zero from)
   lo-is = rw (from_zero-nat from) islo
 
-  hi-is : hi ≡ min (length levels) (min (to_nat (frame_from_zero to)) (2 ^ 40))
+  hi-is : hi ≡ min (length levels) (to_nat (frame_from_zero to))
   hi-is = rw (from_zero-nat to) ishi
 
   pub quiet_run-is : {r : Bool} → r ≡ quiet_between (loud_row floor levels) (pos lo) (pos hi) → r ≡ quiet_run (loud_row floor levels) from to
   unfolding quiet_run quiet_between
   quiet_run-is e =
       let row = loud_row floor levels in
-      let top : to_nat (min_z (pos (length levels)) (frame_from_zero to)) ≡ hi = min_z-index (length levels) (frame_from_zero to) short ∙ sym hi-is in
+      let top : to_nat (min_z (pos (length levels)) (frame_from_zero to)) ≡ hi = min-nat (length levels) (frame_from_zero to) ∙ sym hi-is in
       e ∙ ap (λ (s : Quiet). s.met) (range-pos (quiet_turn row) lo hi (record { run = 0; met = false })
       ∙ run-start (quiet_turn row) hi lo (to_nat (frame_at from)) (record { run = 0; met = false }) (omega arith))
       ∙ sym (rw (length-row floor levels, from_zero-pos from) (ap (λ (s : Quiet). s.met) (range-end (quiet_turn row) (to_nat (frame_at from)) (min_z (pos (length levels)) (frame_from_zero to)) (record { run = 0; met = false }))
@@ -85,5 +84,5 @@ module _ (floor : Float) (levels : List Float) (short : length levels ≤ 2 ^ 40
       → r ≡ sound_end_in (loud_row floor levels) from to
   unfolding sound_end_in
   sound_end_in-is e =
-      let l = last_loud-is end_silence floor levels short (frame_from_zero from) (frame_from_zero to) lo hi lo-is hi-is in
+      let l = last_loud-is end_silence floor levels (frame_from_zero from) (frame_from_zero to) lo hi lo-is hi-is in
       e ∙ ap sound_end (sym l)

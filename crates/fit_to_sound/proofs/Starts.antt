@@ -9,7 +9,7 @@ use lib.ListN.{get_or, set}
 use lib.Seq.{set-get_or}
 use lib.Ieee.{Float, nan, lt}
 use Rattle.base.specs.Floats.{◌⊕◌}
-use Rattle.base.specs.Words.{edges, times}
+use Rattle.base.specs.Words.{Edges, edges, times, times_at, set_times}
 use Rattle.base.specs.declared.Times.{Times}
 use Rattle.js.specs.Js.{js_min, js_max}
 use Rattle.ends.specs.Ends.{next_start}
@@ -40,18 +40,17 @@ pub set-end : (t : Times) (starts ends : List Float) (i : ℕ) → t.start ≡ g
 set-end t starts ends i e = ap (λ (l : List Float). edges l (set ends i t.end)) (sym (set-get_or starts i nan) ∙ ap (set starts i) (sym e))
 
 -- ---- what is stored
-module _ (i : ℕ) (starts ends : List Float) where
-  pub order-turn : {s : Float} {t : Times} (duration : Float) → s ≡ step_start starts i → t ≡ in_order duration (times s (get_or ends i nan))
-      → edges (set starts i t.start) (set ends i t.end) ≡ order_turn duration i (edges starts ends)
+module _ (i : ℕ) (es : Edges) where
+  pub order-turn : {s : Float} {t : Times} {made : Edges} (duration : Float) → s ≡ step_start es.starts i → t ≡ in_order duration (times s (get_or es.ends i nan))
+      → made ≡ set_times es i t → made ≡ order_turn duration i es
   unfolding order_turn
-  order-turn duration es et = rw (et, es)
+  order-turn duration eb et em = em ∙ rw (et, eb)
 
-  pub rise-turn : {next : Option Float} {t : Times} (row : List Bool) → next ≡ next_start starts i → t ≡ rise_of row next (times (get_or starts i nan) (get_or ends i nan))
-      → edges (set starts i t.start) (set ends i t.end) ≡ rise_turn_of row i (edges starts ends)
+  pub rise-turn : {next : Option Float} {w t : Times} {made : Edges} (row : List Bool) → next ≡ next_start es.starts i → w ≡ times_at es i → t ≡ rise_of row next w
+      → made ≡ set_times es i t → made ≡ rise_turn_of row i es
   unfolding rise_turn_of
-  rise-turn row en et = rw (et, en)
+  rise-turn row en ew et em = em ∙ rw (rw (ew, en) at et)
 
-  pub clip-turn : {t : Times} → t ≡ clipped (get_or starts (i + 1) nan) (times (get_or starts i nan) (get_or ends i nan))
-      → edges starts (set ends i t.end) ≡ clip_turn i (edges starts ends)
+  pub clip-turn : {w t : Times} → w ≡ times_at es i → t ≡ clipped (get_or es.starts (i + 1) nan) w → edges es.starts (set es.ends i t.end) ≡ clip_turn i es
   unfolding clip_turn
-  clip-turn {t} et = set-end t starts ends i (ap (λ (v : Times). v.start) et ∙ clip-start _ _) ∙ rw et
+  clip-turn {w} {t} ew et = set-end t es.starts es.ends i (ap (λ (v : Times). v.start) et ∙ clip-start _ _ ∙ ap (λ (v : Times). v.start) ew) ∙ rw (rw ew at et)

@@ -1,5 +1,5 @@
 -- What only the contracts of unchecked parts cite; a reader of the public call may skip it. Assumes nothing.
-use Rattle.std.specs.Prelude.{ℕ, ◌^◌, min, ◌+◌, Bool, cond, not, ◌&&◌, List, ℤ, pos, length, Float, Option, Some, None}
+use Rattle.std.specs.Prelude.{ℕ, ◌+◌, Bool, cond, not, ◌&&◌, List, ℤ, pos, length, Float, Option, Some, None}
 use Rattle.std.specs.Int.Signed.{lt_z}
 use Rattle.std.specs.Float.Ieee.{lt, le}
 use Rattle.base.specs.Whole.{to_nat}
@@ -14,7 +14,7 @@ use Rattle.js.specs.Js.{js_min}
 
 -- ---- The index at which a search stops before the next word; `last` where there is none.
 unfoldable pub stop_index : Option Float → ℕ → ℕ
-stop_index (Some s) last = min (to_nat (frame_at (s ⊖ before_next))) (2 ^ 40)
+stop_index (Some s) last = to_nat (frame_at (s ⊖ before_next))
 stop_index None last = last
 
 -- ---- A word in silence at frame f: what rise_of does with it.

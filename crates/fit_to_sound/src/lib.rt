@@ -1,13 +1,15 @@
 // Words fitted to their sound (fit.rs, fit_to_sound).
 #![tactic(auto)]
 
-ghost use Rattle.std.specs.Prelude.{◌≡◌, ◌≤◌, ◌^◌, length};
-ghost use Rattle.base.specs.Words.{words, edges};
+ghost use Rattle.std.specs.Prelude.{◌≡◌, ◌≤◌, length};
+ghost use Rattle.base.specs.Words.{words};
+ghost use Rattle.base.specs.TimedWords.{edges_of, SameLists};
 ghost use Rattle.word_calls.specs.Calls.{output};
 ghost use Rattle.fit_to_sound.specs.FitToSound.{fit_to_sound, fit_call};
 ghost use Rattle.envelope.specs.Frames.{loud_in};
 
 use base::Refusal;
+use base::timed_words::TimedWords;
 use base::word_lists::WordLists;
 use envelope::view::Envelope;
 
@@ -15,25 +17,17 @@ pub mod word_ends;
 pub mod word_starts;
 
 // Fits words to their sound (fit.rs, fit_to_sound); nothing is checked.
-pub fn fit_words(
-    starts: &mut [f64],
-    ends: &mut [f64],
-    letters: &[u32],
-    e: Envelope<'_>,
-    duration: f64,
-)
-    requires { (length ends.old ≡ length starts.old)
-        × ((length letters.now ≡ length starts.old) × ((length starts.old ≤ 4096) × (length e.levels.now ≤ 2 ^ 40))) }
-    ensures { let before = edges starts.old ends.old in
-        let after = edges starts.new ends.new in
-        after ≡ fit_to_sound (loud_in e.entry) duration letters.now before }
+pub fn fit_words(w: &mut TimedWords<'_>, e: Envelope<'_>, duration: f64)
+    requires { length w.old.starts.now ≤ 4096 }
+    ensures same { SameLists w.old w.new }
+    ensures fitted { edges_of w.new ≡ fit_to_sound (loud_in e.entry) duration w.old.weights.now (edges_of w.old) }
 {
-    word_starts::put_in_order(starts, ends, duration);
-    word_starts::move_to_rise(starts, ends, e);
-    word_starts::clip(starts, ends);
-    even::even_words(starts, ends, letters, f64::INFINITY);
-    word_ends::settle_ends(starts, ends, letters, e, duration);
-    even::even_words(starts, ends, letters, duration);
+    word_starts::put_in_order(w, duration);
+    word_starts::move_to_rise(w, e);
+    word_starts::clip(w);
+    even::even_words(w, f64::INFINITY);
+    word_ends::settle_ends(w, e, duration);
+    even::even_words(w, duration);
 }
 
 // Fits words to their sound, of words, levels and a duration within the limits (fit.rs, fit_to_sound).
@@ -62,6 +56,11 @@ pub fn fit_to_sound(
         e.count,
         duration,
     )?;
-    fit_words(starts, ends, letters, e, duration);
+    let mut w = TimedWords {
+        starts,
+        ends,
+        weights: letters,
+    };
+    fit_words(&mut w, e, duration);
     Ok(())
 }

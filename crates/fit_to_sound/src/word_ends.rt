@@ -1,11 +1,13 @@
 // Ends settled on their sound (fit.rs, fit_to_sound, steps 5 and 6).
-ghost use Rattle.std.specs.Prelude.{◌≡◌, ◌<◌, ◌≤◌, ◌^◌, pos, length, Float, Bool, List};
-ghost use Rattle.base.specs.Words.{edges};
+ghost use Rattle.std.specs.Prelude.{◌≡◌, ◌<◌, pos, Float, Bool, List};
+ghost use Rattle.base.specs.TimedWords.{edges_of, SameLists};
 ghost use Rattle.fit_to_sound.specs.FitToSound.{sound_end_in, quiet_between, quiet_run, cut_back, lasts_to, ended_by, end_of, settle_ends};
 ghost use Rattle.fit_to_sound.specs.Parts.{counted as counted_of, is_loose};
 ghost use Rattle.envelope.specs.Frames.{loud_in};
 
+use base::timed_words::TimedWords;
 use base::{END_SILENCE, LOOSE, MIN_LETTER, Times};
+use envelope::frame_range::FrameRange;
 use envelope::view::Envelope;
 
 // A cut leaves a word so much, in seconds, or what its letters need.
@@ -13,12 +15,9 @@ const MAX_NEED: f64 = 0.3;
 
 // Where the sound that starts between two times ends, or no sound (fit.rs, sound_end).
 fn sound_end_in(e: Envelope<'_>, from: f64, to: f64) -> Option<f64>
-    requires { length e.levels.now ≤ 2 ^ 40 }
     ensures { result ≡ sound_end_in (loud_in e.entry) from to }
 {
-    let lo = frames::frame_index(from);
-    let hi = e.levels.len().min(frames::frame_index(to));
-    ends::sound::sound_end(e, END_SILENCE, lo, hi)
+    ends::sound::sound_end(e, END_SILENCE, e.between(from, to))
 }
 
 // So many quiet frames in a row, with one frame more.
@@ -33,12 +32,12 @@ fn counted(run: usize, loud: bool) -> usize
     run + 1
 }
 
-// Whether 15 quiet frames in a row lie from lo to before hi.
-fn quiet_between(e: Envelope<'_>, lo: usize, hi: usize) -> bool
-    ensures { result ≡ quiet_between (loud_in e.entry) (pos lo) (pos hi) }
+// Whether 15 quiet frames in a row are among these.
+fn quiet_between(e: Envelope<'_>, r: FrameRange) -> bool
+    ensures { result ≡ quiet_between (loud_in e.entry) (pos r.lo) (pos r.hi) }
 {
     let mut run = 0;
-    for k in lo..hi {
+    for k in r.lo..r.hi {
         run = counted(run, e.loud(k));
         if run >= END_SILENCE {
             return true;
@@ -49,12 +48,9 @@ fn quiet_between(e: Envelope<'_>, lo: usize, hi: usize) -> bool
 
 // Whether 150 ms of silence lie between two times (fit.rs, quiet_run).
 fn quiet_run(e: Envelope<'_>, from: f64, to: f64) -> bool
-    requires { length e.levels.now ≤ 2 ^ 40 }
     ensures { result ≡ quiet_run (loud_in e.entry) from to }
 {
-    let lo = frames::frame_index(from);
-    let hi = e.levels.len().min(frames::frame_index(to));
-    quiet_between(e, lo, hi)
+    quiet_between(e, e.between(from, to))
 }
 
 // Whether a word's end lies too far past its sound's end, and the sound is long enough for its letters.
@@ -82,7 +78,6 @@ fn cut_back(letters: u32, end: f64, w: Times) -> Times
 // A word whose next one starts at `next` lasts until that, where no silence lies between.
 #[tactic(auto, unfolding(crate::specs::FitToSound::lasts_to))]
 fn lasts_to_next(e: Envelope<'_>, next: f64, w: Times) -> Times
-    requires { length e.levels.now ≤ 2 ^ 40 }
     ensures { (end : Float) → result ≡ lasts_to (loud_in e.entry) (Some next) end w }
 {
     if next > w.end && !quiet_run(e, w.end, next) {
@@ -110,7 +105,6 @@ fn lasts_to_end(end: f64, w: Times) -> Times
 
 // A word lasts until the next one, where no silence lies between; the last one until its sound's end (fit_to_sound, step 6).
 fn lasts_to(e: Envelope<'_>, next: Option<f64>, end: f64, w: Times) -> Times
-    requires { length e.levels.now ≤ 2 ^ 40 }
     ensures { result ≡ lasts_to (loud_in e.entry) next end w }
 {
     match next {
@@ -121,7 +115,6 @@ fn lasts_to(e: Envelope<'_>, next: Option<f64>, end: f64, w: Times) -> Times
 
 // A word's times, by where its sound ends.
 fn ended_by(e: Envelope<'_>, next: Option<f64>, letters: u32, sound: Option<f64>, w: Times) -> Times
-    requires { length e.levels.now ≤ 2 ^ 40 }
     ensures { result ≡ ended_by (loud_in e.entry) next letters sound w }
 {
     match sound {
@@ -132,7 +125,6 @@ fn ended_by(e: Envelope<'_>, next: Option<f64>, letters: u32, sound: Option<f64>
 
 // A word's times, its end settled on its sound.
 fn end_of(e: Envelope<'_>, duration: f64, next: Option<f64>, letters: u32, w: Times) -> Times
-    requires { length e.levels.now ≤ 2 ^ 40 }
     ensures { result ≡ end_of (loud_in e.entry) duration next letters w }
 {
     let sound = sound_end_in(e, w.start, ends::one_word::or_duration(next, duration));
@@ -140,30 +132,14 @@ fn end_of(e: Envelope<'_>, duration: f64, next: Option<f64>, letters: u32, w: Ti
 }
 
 // Settles each word's end on its sound.
-pub fn settle_ends(
-    starts: &[f64],
-    ends: &mut [f64],
-    letters: &[u32],
-    e: Envelope<'_>,
-    duration: f64,
-)
-    requires { (length ends.old ≡ length starts.now) × ((length letters.now ≡ length starts.now) × (length e.levels.now ≤ 2 ^ 40)) }
-    ensures { let before = edges starts.now ends.old in
-        let after = edges starts.now ends.new in
-        after ≡ settle_ends (loud_in e.entry) duration letters.now before }
+pub(crate) fn settle_ends(w: &mut TimedWords<'_>, e: Envelope<'_>, duration: f64)
+    ensures same { SameLists w.old w.new }
+    ensures settled { edges_of w.new ≡ settle_ends (loud_in e.entry) duration w.old.weights.now (edges_of w.old) }
 {
-    for i in 0..starts.len() {
-        let w = Times {
-            start: starts[i],
-            end: ends[i],
-        };
-        let settled = end_of(
-            e,
-            duration,
-            ends::one_word::next_start(starts, i),
-            letters[i],
-            w,
-        );
-        ends[i] = settled.end;
+    for i in 0..w.starts.len() {
+        let t = w.at(i);
+        let next = ends::one_word::start_after(w, i);
+        let settled = end_of(e, duration, next, w.weights[i], t);
+        w.ends[i] = settled.end;
     }
 }

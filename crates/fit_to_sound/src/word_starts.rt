@@ -1,12 +1,14 @@
 // Starts in order, and moved to their sound; no word runs into the next (fit.rs, fit_to_sound, steps 1 to 3).
 ghost use Rattle.std.specs.Prelude.{◌≡◌, ◌+◌, ◌<◌, ◌≤◌, ◌^◌, pos, length};
-ghost use Rattle.base.specs.Words.{edges};
+ghost use Rattle.base.specs.TimedWords.{edges_of, SameLists};
 ghost use Rattle.fit_to_sound.specs.FitToSound.{step_start, in_order, put_in_order, is_loud_run, rise_frame, moved_to, rise_of, move_to_rise};
 ghost use Rattle.fit_to_sound.specs.FitToSound.{clipped, clip as clip_all};
 ghost use Rattle.fit_to_sound.specs.Parts.{stop_index, rise_from};
 ghost use Rattle.envelope.specs.Frames.{loud_in};
 
 use base::Times;
+use base::timed_words::TimedWords;
+use envelope::frame_range::FrameRange;
 use envelope::view::Envelope;
 
 // From a word's start to the next, in seconds, it is no less.
@@ -21,14 +23,14 @@ const MAX_KEEP: f64 = 0.5;
 const LOUD_RUN: usize = 3;
 // Word i's start, 0.02 s after the start before it at the least.
 #[tactic(auto, unfolding(crate::specs::FitToSound::step_start))]
-fn step_start(starts: &[f64], i: usize) -> f64
-    requires { i < length starts.now }
-    ensures { result ≡ step_start starts.now i }
+fn step_start(w: &TimedWords<'_>, i: usize) -> f64
+    requires { i < length w.now.starts.now }
+    ensures { result ≡ step_start w.now.starts.now i }
 {
     if 0 < i {
-        return js::js_max(starts[i], starts[i - 1] + MIN_STEP);
+        return js::js_max(w.starts[i], w.starts[i - 1] + MIN_STEP);
     }
-    starts[i]
+    w.starts[i]
 }
 
 // A word that ends no sooner than it starts, and no later than the duration.
@@ -43,45 +45,40 @@ fn in_order(duration: f64, w: Times) -> Times
 }
 
 // Puts starts in order, and ends behind them (fit_to_sound, step 1).
-pub fn put_in_order(starts: &mut [f64], ends: &mut [f64], duration: f64)
-    requires { length ends.old ≡ length starts.old }
-    ensures { edges starts.new ends.new ≡ put_in_order duration (edges starts.old ends.old) }
+pub(crate) fn put_in_order(w: &mut TimedWords<'_>, duration: f64)
+    ensures same { SameLists w.old w.new }
+    ensures ordered { edges_of w.new ≡ put_in_order duration (edges_of w.old) }
 {
-    for i in 0..starts.len() {
-        let w = in_order(
-            duration,
-            Times {
-                start: step_start(starts, i),
-                end: ends[i],
-            },
-        );
-        starts[i] = w.start;
-        ends[i] = w.end;
+    for i in 0..w.starts.len() {
+        let t = Times {
+            start: step_start(w, i),
+            end: w.ends[i],
+        };
+        w.put(i, in_order(duration, t));
     }
 }
 
-// Whether frames k to k + 2 are loud.
-#[tactic(auto, unfolding(crate::specs::FitToSound::is_loud_run))]
+// Whether frames k to k + 2, of which there are levels, are loud.
 fn is_loud_run(e: Envelope<'_>, k: usize) -> bool
-    requires { k ≤ 2 ^ 40 }
+    requires { k + 2 < length e.levels.now }
     ensures { result ≡ is_loud_run (loud_in e.entry) (pos k) }
 {
-    // Each frame of a search comes here: all() over a range takes twice the instructions.
-    e.loud(k) && e.loud(k + 1) && e.loud(k + 2)
+    // Each frame of a search comes here: all() over a range takes twice the instructions, and `loud` would look whether there is such a frame.
+    e.levels[k] > e.floor && e.levels[k + 1] > e.floor && e.levels[k + 2] > e.floor
 }
 
-// The first frame from f to before stop at which a sound starts; where there is none, the end of the search, as the Rust's loop leaves its
+// The first of these frames at which a sound starts; where there is none, the end of the search, as the Rust's loop leaves its
 // frame (an `Option` would be no plainer: its definition is that frame).
-fn rise_frame(e: Envelope<'_>, f: usize, stop: usize) -> usize
-    requires { stop ≤ 2 ^ 40 }
-    ensures { pos result ≡ rise_frame (loud_in e.entry) (pos f) (pos stop) }
+fn rise_frame(e: Envelope<'_>, r: FrameRange) -> usize
+    requires { r.hi + 2 ≤ length e.levels.now }
+    ensures { pos result ≡ rise_frame (loud_in e.entry) (pos r.lo) (pos r.hi) }
 {
-    for k in f..stop {
+    for k in r.lo..r.hi {
         if is_loud_run(e, k) {
             return k;
         }
     }
-    f.max(stop)
+    r.lo.max(r.hi)
 }
 
 // The frame at which a word's search stops before the next word; `last` where there is none.
@@ -89,7 +86,7 @@ fn rise_frame(e: Envelope<'_>, f: usize, stop: usize) -> usize
 fn stop_before(next: Option<f64>, last: usize) -> usize
     ensures { result ≡ stop_index next last }
 {
-    next.map_or(last, |s| frames::frame_index(s - BEFORE_NEXT))
+    next.map_or(last, |s| frames::index_at(s - BEFORE_NEXT))
 }
 
 // The word with another start; it keeps at most 0.5 s of its length, and ends no sooner than it did.
@@ -105,13 +102,13 @@ fn moved_to(start: f64, w: Times) -> Times
 
 // A word whose first frame f, of which three more follow, is quiet: it starts where its sound does, if that is soon enough.
 fn rise_from(e: Envelope<'_>, f: usize, next: Option<f64>, w: Times) -> Times
-    requires { (f + 3 < length e.levels.now) × (length e.levels.now ≤ 2 ^ 40) }
+    requires { f + 3 < length e.levels.now }
     ensures { result ≡ rise_from (loud_in e.entry) (pos f) next w }
 {
     let last = e.levels.len() - LOUD_RUN;
-    let ahead = last.min(frames::frame_index(w.start + SEARCH_AHEAD));
+    let ahead = last.min(frames::index_at(w.start + SEARCH_AHEAD));
     let stop = ahead.min(stop_before(next, last));
-    let k = rise_frame(e, f, stop);
+    let k = rise_frame(e, FrameRange { lo: f, hi: stop });
     if k < stop {
         return moved_to(frames::index_seconds(k), w);
     }
@@ -120,11 +117,10 @@ fn rise_from(e: Envelope<'_>, f: usize, next: Option<f64>, w: Times) -> Times
 
 // A word that starts in silence starts where its sound does (fit_to_sound, step 2).
 fn rise_of(e: Envelope<'_>, next: Option<f64>, w: Times) -> Times
-    requires { length e.levels.now ≤ 2 ^ 40 }
     ensures { result ≡ rise_of (loud_in e.entry) next w }
 {
-    let f = frames::frame_index(w.start);
-    if e.levels.len() <= f + LOUD_RUN {
+    let f = frames::index_at(w.start);
+    if e.levels.len().saturating_sub(LOUD_RUN) <= f {
         return w;
     }
     if e.loud(f) {
@@ -134,23 +130,14 @@ fn rise_of(e: Envelope<'_>, next: Option<f64>, w: Times) -> Times
 }
 
 // Moves starts in silence to their sound.
-pub fn move_to_rise(starts: &mut [f64], ends: &mut [f64], e: Envelope<'_>)
-    requires { (length ends.old ≡ length starts.old) × (length e.levels.now ≤ 2 ^ 40) }
-    ensures { let before = edges starts.old ends.old in
-        let after = edges starts.new ends.new in
-        after ≡ move_to_rise (loud_in e.entry) before }
+pub(crate) fn move_to_rise(w: &mut TimedWords<'_>, e: Envelope<'_>)
+    ensures same { SameLists w.old w.new }
+    ensures moved { edges_of w.new ≡ move_to_rise (loud_in e.entry) (edges_of w.old) }
 {
-    for i in 0..starts.len() {
-        let w = rise_of(
-            e,
-            ends::one_word::next_start(starts, i),
-            Times {
-                start: starts[i],
-                end: ends[i],
-            },
-        );
-        starts[i] = w.start;
-        ends[i] = w.end;
+    for i in 0..w.starts.len() {
+        let next = ends::one_word::start_after(w, i);
+        let t = rise_of(e, next, w.at(i));
+        w.put(i, t);
     }
 }
 
@@ -169,18 +156,11 @@ fn clipped_to(next: f64, w: Times) -> Times
 }
 
 // No word runs into the next one (fit_to_sound, step 3).
-pub fn clip(starts: &[f64], ends: &mut [f64])
-    requires { length ends.old ≡ length starts.now }
-    ensures { edges starts.now ends.new ≡ clip_all (edges starts.now ends.old) }
+pub(crate) fn clip(w: &mut TimedWords<'_>)
+    ensures same { SameLists w.old w.new }
+    ensures clipped { edges_of w.new ≡ clip_all (edges_of w.old) }
 {
-    for i in 0..starts.len().saturating_sub(1) {
-        let w = clipped_to(
-            starts[i + 1],
-            Times {
-                start: starts[i],
-                end: ends[i],
-            },
-        );
-        ends[i] = w.end;
+    for i in 0..w.starts.len().saturating_sub(1) {
+        w.ends[i] = clipped_to(w.starts[i + 1], w.at(i)).end;
     }
 }

@@ -1,4 +1,4 @@
--- A frame as an index, from 0 and cut at 2 ^ 40: compared with a number up to 2 ^ 40 it is the frame itself. Assumes nothing.
+-- A frame as an index: a cut at 2 ^ 40 would not be seen beside a number up to 2 ^ 40. Assumes nothing.
 use Rattle.std.proofs.Common.{◌≡◌, ℕ, ◌^◌, ◌≤◌, min, ℤ, pos, ◌∙◌, arith}
 use lib.Ieee.{Float}
 use Rattle.base.specs.Whole.{to_nat, min_z}

@@ -1,6 +1,6 @@
 -- An i64 is read back from its bits as itself, and what the machine computes of it is what ℤ says. Assumes nothing.
-use Rattle.std.proofs.Common.{◌≡◌, ℕ, zero, suc, ◌+◌, ◌^◌, ◌<◌, Bool, true, false, T, ℤ, pos, negsuc, ◌-ℤ◌, neg_ℤ, nat_abs, refl, ap, ◌∙◌, true≢false, arith, w64, Fits, to_z, of_z, ltb-true, lt-ltb, le-ltb}
-use lib.Signed.{mag, lt_z, non_neg, nat_abs-le}
+use Rattle.std.proofs.Common.{◌≡◌, ℕ, zero, suc, ◌+◌, ◌^◌, ◌<◌, Bool, true, false, ℤ, pos, negsuc, ◌-ℤ◌, neg_ℤ, nat_abs, refl, ap, ◌∙◌, true≢false, arith, w64, to_z, of_z, ltb-true, lt-ltb, le-ltb}
+use lib.Signed.{mag, lt_z}
 use mir.ValLaws.{to_z_pos, to_z-of_z}
 use lib.IntN.{+ℤ_idl}
 use Rattle.std.specs.Int.{int_max}
@@ -25,10 +25,6 @@ size-one : (z : ℤ) → lt_z z (pos 0) ≡ true → mag z + 1 ≡ nat_abs z
 size-one (pos n) t = absurd (omega (arith, ltb-true n 0 t))
 size-one (negsuc n) t = omega arith
 
-not-below : (z : ℤ) → lt_z z (pos 0) ≡ false → T (non_neg z)
-not-below (pos n) t = tt
-not-below (negsuc n) t = absurd (true≢false t)
-
 module _ (z : ℤ) (h : mag z < 2 ^ 63) where
   pub read_back : to_z w64 (of_z w64 z) ≡ z
   read_back = to_z-of_z w64 z (record { sfits = h })
@@ -41,23 +37,12 @@ module _ (z : ℤ) (h : mag z < 2 ^ 63) where
     pub size_back : mag z + 1 ≡ nat_abs z
     size_back = size-one z (test_back t)
 
--- ---- an i64 as an index: where it is not negative it fits, and is the number itself
-
+-- ---- an i64 as an index: where it is not negative it is the number itself
 size-nat : (k : ℤ) → lt_z k (pos 0) ≡ false → nat_abs k ≡ to_nat k
 size-nat (pos n) t = refl
 size-nat (negsuc n) t = absurd (true≢false t)
 
-below-nat : (k : ℤ) → lt_z k (pos 0) ≡ true → to_nat k ≡ 0
-below-nat (pos n) t = absurd (omega (arith, ltb-true n 0 t))
-below-nat (negsuc n) t = refl
-
 module _ (k : ℤ) (h : mag k < 2 ^ 63) where
-  pub index-none : lt_z (to_z w64 (of_z w64 k)) (pos 0) ≡ true → to_nat k ≡ 0
-  index-none t = below-nat k (test_back k h t)
-
   module _ (t : lt_z (to_z w64 (of_z w64 k)) (pos 0) ≡ false) where
-    pub index-fits : T (non_neg (to_z w64 (of_z w64 k))) × Fits w64 (nat_abs (to_z w64 (of_z w64 k)))
-    index-fits = rw (read_back k h) (not-below k (test_back k h t), record { fits = omega (arith, nat_abs-le k h) })
-
     pub index_is : nat_abs (to_z w64 (of_z w64 k)) ≡ to_nat k
     index_is = ap nat_abs (read_back k h) ∙ size-nat k (test_back k h t)

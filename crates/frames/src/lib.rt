@@ -16,8 +16,8 @@ pub const RATE: f64 = 16000.0;
 // Samples in a frame.
 const HOP: f64 = base::HOP as f64;
 
-// Where a frame's index is cut: 2^40, high above any audio's frames.
-const CUT: u64 = 0x100_0000_0000;
+// The largest i64, where `frame_at` and `frame_ceil` end.
+const LARGEST: u64 = i64::MAX as u64;
 
 // A time in frames: times the rate, rounded once, divided by the hop, rounded once (envelope.rs).
 fn in_frames(t: f64) -> f64
@@ -106,18 +106,18 @@ pub fn frame_from_zero(t: f64) -> i64
     frame_at(t).max(0)
 }
 
-// The frame of a time, from 0 to 2^40.
-pub fn frame_index(t: f64) -> usize
-    ensures { result ≡ min (to_nat (frame_at t)) (2 ^ 40) }
+// The frame of a time, as an index: a frame before frame 0 is raised to it.
+pub fn index_at(t: f64) -> usize
+    ensures { result ≡ to_nat (frame_at t) }
 {
-    saturating_f64_to_u64(in_frames(t)).min(CUT) as usize
+    saturating_f64_to_u64(in_frames(t)).min(LARGEST) as usize
 }
 
-// The frame of a time, rounded up, from 0 to 2^40.
-pub fn ceil_index(t: f64) -> usize
-    ensures { result ≡ min (to_nat (frame_ceil t)) (2 ^ 40) }
+// The frame of a time, rounded up, as an index.
+pub fn index_ceil(t: f64) -> usize
+    ensures { result ≡ to_nat (frame_ceil t) }
 {
-    ceil_whole(in_frames(t)).min(CUT) as usize
+    ceil_whole(in_frames(t)).min(LARGEST) as usize
 }
 
 // The samples before frame n, rounded once: both halves of n * 160 are exact, and only their sum rounds.

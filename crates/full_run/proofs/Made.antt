@@ -36,32 +36,25 @@ module _ (samples : List Float) (ws : Words) (spans : Spans) (phrases : List ℕ
   given = input samples ws spans phrases places s e (work_places a b d)
 
   -- ---- what an accepted run has
-  pub hear-ready : chain (run_applies given) ≡ Ok tt → (length samples ≤ 57600000) × (frames samples ≤ length places)
-  hear-ready h = let w = within given h in (w.few-samples, w.level-places)
+  pub hear-ready : chain (run_applies given) ≡ Ok tt → frames samples ≤ length places
+  hear-ready h = (within given h).level-places
+
+  pub spans-tested : chain (run_applies given) ≡ Ok tt → ((length spans.ends ≡ length spans.starts) × (length spans.counts ≡ length spans.starts)) × (length spans.starts ≤ 4096)
+  spans-tested h = let q = (within given h).spans-within in ((q.ends-as-long, q.counts-as-long), q.few)
 
   pub after-ready : {ls : List Float} → chain (run_applies given) ≡ Ok tt → ls ≡ levels samples ++ drop (frames samples) places
-      → Ready ws spans (length phrases) (length (part 0 (frames samples) ls)) a b d
+      → Ready ws (length phrases) a b d
       × (FewLetters ws.letters × PiecesReady (length (part 0 (frames samples) ls)) (length samples) (length s) (length e))
   after-ready {ls} h k =
       let w = within given h in
       let v = w.words-within in
-      let q = w.spans-within in
       let long : length (part 0 (frames samples) ls) ≡ frames samples = rw (sub-zero, front-levels samples places ls k) (length-levels samples) in
       rw long (
         (
           one-length v,
           (
             omega (arith, v.keys-as-long, v.few),
-            (
-              q.ends-as-long,
-              (
-                q.counts-as-long,
-                (
-                  q.few,
-                  (omega (arith, w.few-samples), (w.phrase-places, (omega (arith, w.work-places), (omega (arith, w.work-places), omega (arith, w.work-places))))),
-                ),
-              ),
-            ),
+            (w.phrase-places, (omega (arith, w.work-places), (omega (arith, w.work-places), omega (arith, w.work-places)))),
           ),
         ),
         (letters-most v, record { few = w.few-samples; all = refl; from = w.start-places; to = w.end-places }),

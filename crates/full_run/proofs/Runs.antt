@@ -34,14 +34,18 @@ module _ (ls : List Float) (samples : ℕ) (ws : Words) (spans : Spans) (phrases
         let m : min (length starts) (length ends) ≡ length starts = omega arith in
         rw (m, n) at (applies-are (replicate samples zero_f) ws spans phrases ls starts ends work)
 
+  -- ---- the spans that have passed the tests
+  pub spans-tested : length ends ≡ length starts → chain (applies_to samples ws spans (length phrases) (length ls) (length starts) work) ≡ Ok tt
+      → ((length spans.ends ≡ length spans.starts) × (length spans.counts ≡ length spans.starts)) × (length spans.starts ≤ 4096)
+  spans-tested e h = let q = (run-within e h).spans-within in ((q.ends-as-long, q.counts-as-long), q.few)
+
   -- ---- what an accepted run has
   pub stages-ready : {b d : ℕ} → (length ls ≡ samples / 160) × ((length ends ≡ length starts) × ((b ≡ work) × (d ≡ work)))
       → chain (applies_to samples ws spans (length phrases) (length ls) (length starts) work) ≡ Ok tt
-      → Ready ws spans (length phrases) (length ls) work b d × (FewLetters ws.letters × PiecesReady (length ls) samples (length starts) (length ends))
+      → Ready ws (length phrases) work b d × (FewLetters ws.letters × PiecesReady (length ls) samples (length starts) (length ends))
   stages-ready (own, (two, (eb, ed))) h =
       let w = run-within two h in
       let v = w.words-within in
-      let q = w.spans-within in
       let n : length (replicate samples zero_f) ≡ samples = length-replicate samples zero_f in
       let few : samples ≤ 57600000 = rw n at w.few-samples in
       let from = rw n at w.start-places in
@@ -50,10 +54,7 @@ module _ (ls : List Float) (samples : ℕ) (ws : Words) (spans : Spans) (phrases
           one-length v,
           (
             omega (arith, v.keys-as-long, v.few),
-            (
-              q.ends-as-long,
-              (q.counts-as-long, (q.few, (omega (arith, few, own), (w.phrase-places, (w.work-places, (omega (arith, w.work-places, eb), omega (arith, w.work-places, ed))))))),
-            ),
+            (w.phrase-places, (w.work-places, (omega (arith, w.work-places, eb), omega (arith, w.work-places, ed)))),
           ),
         ),
         (letters-most v, record { few = few; all = own; from = rw own from; to = rw own to }),

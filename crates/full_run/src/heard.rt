@@ -9,6 +9,7 @@ ghost use Rattle.run_stages.specs.Stages.{run_on};
 
 use super::Report;
 use base::Refusal;
+use base::span_list::SpanList;
 use base::spans::Spans;
 use base::word_lists::WordLists;
 use envelope::view::Envelope;
@@ -64,6 +65,11 @@ pub fn run_heard(
         work_starts.len(),
     )?;
     let floor = envelope::floor::floor_of(levels);
+    let tested = SpanList {
+        starts: spans.starts,
+        ends: spans.ends,
+        counts: spans.counts,
+    };
     let out = run_stages::after_levels(
         Envelope {
             levels,
@@ -75,7 +81,7 @@ pub fn run_heard(
         letters,
         units,
         keys,
-        spans,
+        tested,
         phrases,
         piece_starts,
         piece_ends,

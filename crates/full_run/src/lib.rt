@@ -8,6 +8,7 @@ ghost use Rattle.base.specs.Refusals.{Unchanged};
 ghost use Rattle.fit_file.specs.FitFile.{work_places};
 ghost use Rattle.full_run.specs.FullRun.{input, output, full_run};
 
+use base::span_list::SpanList;
 use base::spans::Spans;
 use base::word_lists::WordLists;
 use base::{HOP, Refusal};
@@ -73,6 +74,11 @@ pub fn full_run(
     )?;
     let floor = envelope::hear(samples, levels);
     let n = samples.len() / HOP;
+    let tested = SpanList {
+        starts: spans.starts,
+        ends: spans.ends,
+        counts: spans.counts,
+    };
     let out = run_stages::after_levels(
         Envelope {
             levels: &levels[0..n],
@@ -84,7 +90,7 @@ pub fn full_run(
         letters,
         units,
         keys,
-        spans,
+        tested,
         phrases,
         piece_starts,
         piece_ends,

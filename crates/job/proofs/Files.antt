@@ -15,6 +15,7 @@ use Rattle.base.specs.declared.Refusal.TheVariants.{Counts, Layout}
 use Rattle.base.specs.Words.{part}
 use Rattle.envelope.specs.Envelope.{levels}
 use Rattle.job_text.specs.Text.{refused_line}
+use Rattle.job_text.specs.declared.writer.Writer.{Writer}
 use Rattle.job_text.specs.Parts.{Wrote}
 use Rattle.job_layout.specs.Layout.{whole, u32_at, f32_at, column, contents, too_many, gapless, file_size, samples_from}
 use Rattle.job_layout.specs.Parts.{plan_of}
@@ -188,6 +189,6 @@ module _ (came : ℕ) (t bodies : List ℕ) (ls : List Float) (file : List ℕ) 
               )
 
 -- ---- what was written is what is printed
-pub refused-text : {n r room : ℕ} {before after : List ℕ} (why : Refusal) → 33088 ≤ room → n ≡ number why → Wrote (refused_line n) 0 before after r × (r ≤ 0 + 64)
-    → (take r after ≡ refused_line (number why)) × (r ≤ room)
-refused-text why fit is w = (w.0.here ∙ ap refused_line is, let l = w.1 in omega arith)
+pub refused-text : {n room : ℕ} {x z : Writer} {out : List ℕ} (why : Refusal) → 33088 ≤ room → n ≡ number why → x.at ≡ 0 → out ≡ z.bytes.now
+    → Wrote (refused_line n) x z × (z.at ≤ x.at + 64) → (take z.at out ≡ refused_line (number why)) × (z.at ≤ room)
+refused-text why fit is first left w = (rw left (rw first at w.0.here ∙ ap refused_line is), let l = w.1 in omega arith)

@@ -14,11 +14,11 @@ use base::spans::Spans;
 use base::{HOP, Refusal};
 use full_run::Report;
 use job_layout::{Numbers, SAMPLE, SPAN, TABLE, WORD};
+use job_text::writer::Writer;
 
 // The levels of samples that are given as bytes; the samples themselves are work space.
 pub fn hear(bytes: &[u8], samples: &mut [f32], levels: &mut [f64])
-    requires { (4 * length samples.old ≤ length bytes.now)
-        × ((length samples.old ≤ 57600000) × (length samples.old / 160 ≤ length levels.old)) }
+    requires { (4 * length samples.old ≤ length bytes.now) × (length samples.old / 160 ≤ length levels.old) }
     ensures { levels.new
         ≡ levels_of (samples_from bytes.now 0 (length samples.old)) ++ drop
         (length samples.old / 160) levels.old }
@@ -44,11 +44,16 @@ fn print(
         piece_starts.now piece_ends.now)
         × (result ≤ length out.old) }
 {
+    let mut text = Writer { bytes: out, at: 0 };
     match answer {
-        Err(why) => job_text::put_refused(out, 0, u32::from(why)),
+        Err(why) => {
+            job_text::put_refused(&mut text, u32::from(why));
+            text.at
+        }
         Ok(report) => {
-            let pieces = job_text::put_pieces(out, 0, piece_starts, piece_ends, report.pieces);
-            job_text::put_words(out, pieces, spans, starts, ends, phrases, report.words)
+            job_text::put_pieces(&mut text, piece_starts, piece_ends, report.pieces);
+            job_text::put_words(&mut text, spans, starts, ends, phrases, report.words);
+            text.at
         }
     }
 }
@@ -198,7 +203,11 @@ pub fn judge(came: usize, table: &[u8], bodies: &[u8], levels: &[f64], out: &mut
         × (result ≤ length out.old) }
 {
     match check(came, table) {
-        Err(why) => job_text::put_refused(out, 0, u32::from(why)),
+        Err(why) => {
+            let mut text = Writer { bytes: out, at: 0 };
+            job_text::put_refused(&mut text, u32::from(why));
+            text.at
+        }
         Ok(numbers) => {
             let size = WORD * numbers.words + SPAN * numbers.spans;
             let frames = numbers.samples / HOP;

@@ -1,3 +1,4 @@
 -- A job read from standard input.
 pub mod Answers
 pub mod Parts
+pub mod Buffers

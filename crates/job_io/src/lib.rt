@@ -5,9 +5,13 @@
 ghost use Rattle.std.specs.Prelude.{◌≡◌, ◌+◌, ◌*◌, ◌/◌, ◌≤◌, ltb, length, take, OnOk};
 ghost use Rattle.std.specs.Io.KnownBytes.{Consumes};
 ghost use Rattle.job_io.specs.Answers.{Answers, Replies, Taken};
+ghost use Rattle.job_io.specs.Buffers.{SamePlaces};
 ghost use Rattle.job_io.specs.Parts.{heard_stretch, HeardFrom, FollowsFrom, ReceivedFrom};
 
+pub mod buffers;
+
 use base::HOP;
+use buffers::Buffers;
 use job_layout::{Numbers, SAMPLE, SPAN, TABLE, WORD};
 use std::io;
 use std::io::{Read, Write};
@@ -60,8 +64,7 @@ fn hear_stretch<R: Read>(
     samples: &mut [f32],
     levels: &mut [f64],
 ) -> Got
-    requires { (length bytes.old ≡ 4 * length samples.old)
-        × ((length samples.old ≤ 57600000) × (length samples.old / 160 ≤ length levels.old)) }
+    requires { (length bytes.old ≡ 4 * length samples.old) × (length samples.old / 160 ≤ length levels.old) }
     ensures heard { (levels.new ≡ heard_stretch result.ended bytes.new (length samples.old) levels.old)
         × ((result.bytes ≤ length bytes.old) × (result.ended ≡ ltb result.bytes (length bytes.old))) }
     ensures taken { Consumes (R.remaining from.old) (R.remaining from.new) (take result.bytes bytes.new) }
@@ -150,24 +153,17 @@ fn read_bodies<R: Read>(
 }
 
 // Reads a job as far as it decides what is printed: its table, and what the table says that follows.
-fn read_job<R: Read>(
-    from: &mut R,
-    table: &mut [u8],
-    bodies: &mut [u8],
-    bytes: &mut [u8],
-    samples: &mut [f32],
-    levels: &mut [f64],
-) -> Got
-    requires { (length table.old ≡ 24)
-        × ((15616 ≤ length bodies.old)
-        × ((64000 ≤ length bytes.old) × ((16000 ≤ length samples.old) × (6000 ≤ length levels.old)))) }
-    ensures { ReceivedFrom (R.remaining from.old) (R.remaining from.new) result.bytes result.ended
-        table.new bodies.new bytes.new levels.new }
+fn read_job<R: Read>(from: &mut R, b: &mut Buffers<'_>) -> Got
+    ensures same { SamePlaces b.old b.new }
+    ensures received { ReceivedFrom (R.remaining from.old) (R.remaining from.new) result.bytes result.ended
+        b.new.table.now b.new.bodies.now b.new.bytes.now b.new.levels.now }
 {
-    let head = read(from, table);
+    let head = read(from, b.table);
     if head.ended {
         return head;
     }
+    // The table is only read: lent on its own, it is known to stay.
+    let table = &mut *b.table;
     let Ok(numbers) = job_layout::read_table(table) else {
         return head;
     };
@@ -176,10 +172,10 @@ fn read_job<R: Read>(
     let rest = read_bodies(
         from,
         numbers,
-        &mut bodies[0..size],
-        bytes,
-        samples,
-        &mut levels[0..frames],
+        &mut b.bodies[0..size],
+        b.bytes,
+        b.samples,
+        &mut b.levels[0..frames],
     );
     Got {
         bytes: head.bytes + rest.bytes,
@@ -188,24 +184,18 @@ fn read_job<R: Read>(
 }
 
 // Reads a job, and writes what is printed for what came.
-pub fn fit<R: Read>(
-    from: &mut R,
-    table: &mut [u8],
-    bodies: &mut [u8],
-    bytes: &mut [u8],
-    samples: &mut [f32],
-    levels: &mut [f64],
-    out: &mut [u8],
-) -> Outcome
-    requires { (length table.old ≡ 24)
-        × ((15616 ≤ length bodies.old)
-        × ((64000 ≤ length bytes.old)
-        × ((16000 ≤ length samples.old) × ((6000 ≤ length levels.old) × (33088 ≤ length out.old))))) }
-    ensures answers { Answers result.came result.ended table.new bodies.new bytes.new levels.new (take result.text out.new)
+pub fn fit<R: Read>(from: &mut R, b: &mut Buffers<'_>, out: &mut [u8]) -> Outcome
+    requires { 33088 ≤ length out.old }
+    ensures same { SamePlaces b.old b.new }
+    ensures answers { Answers result.came result.ended b.new.table.now b.new.bodies.now b.new.bytes.now b.new.levels.now (take result.text out.new)
         × (result.text ≤ length out.old) }
-    ensures taken { Taken (R.remaining from.old) (R.remaining from.new) result.came table.new bodies.new levels.new }
+    ensures taken { Taken (R.remaining from.old) (R.remaining from.new) result.came b.new.table.now b.new.bodies.now b.new.levels.now }
 {
-    let got = read_job(from, table, bodies, bytes, samples, levels);
+    let got = read_job(from, b);
+    // All three are only read: lent on their own, they are known to stay.
+    let table = &mut *b.table;
+    let bodies = &mut *b.bodies;
+    let levels = &mut *b.levels;
     let text = job::judge(got.bytes, table, bodies, levels, out);
     Outcome {
         came: got.bytes,
@@ -224,16 +214,14 @@ pub fn reply<R: Read, W: Write>(from: &mut R, to: &mut W) -> io::Result<()>
     let mut samples = [0.0f32; 16000];
     let mut levels = [0.0; 6000];
     let mut out = [0u8; 33088];
-    let fit = fit(
-        from,
-        &mut table,
-        &mut bodies,
-        &mut bytes,
-        &mut samples,
-        &mut levels,
-        &mut out,
-    );
-    let n = fit.text;
+    let mut buffers = Buffers {
+        table: &mut table,
+        bodies: &mut bodies,
+        bytes: &mut bytes,
+        samples: &mut samples,
+        levels: &mut levels,
+    };
+    let n = fit(from, &mut buffers, &mut out).text;
     to.write_all(&out[0..n])
 }
 

@@ -1,8 +1,8 @@
--- The last run between two times is that of the frames from one index to another, and an index may be cut at 2 ^ 40. Assumes nothing.
-use Rattle.std.specs.Prelude.{Option, Some}
+-- The last run between two times is that of the frames from one index to another. Assumes nothing.
+use Rattle.std.specs.Prelude.{Option, Some, None, IfSome}
 use Rattle.base.specs.declared.Times.{Times}
 use Rattle.base.specs.Words.{times}
-use Prim.Native.Nat.{ℕ, ◌+◌, ◌-◌, ◌≤◌, ◌^◌, min}
+use Prim.Native.Nat.{ℕ, ◌+◌, ◌-◌, ◌<◌, ◌≤◌, ◌^◌, min}
 use mathlib.Core.Bool.{Bool, true, false}
 use mathlib.Core.List.{List}
 use mathlib.Core.Path.{◌≡◌, refl, ap, ◌∙◌, sym}
@@ -18,6 +18,7 @@ use Rattle.frames.proofs.Indices.{from_zero-nat}
 use Rattle.envelope.specs.Envelope.{loud_row}
 use Rattle.envelope.proofs.Scan.{length-row}
 use Rattle.last_run.specs.LastRun.{frames_of, frame_run, seconds_of, last_run, frames}
+use Rattle.last_run.specs.Parts.{last_frame}
 use Rattle.last_run.specs.Exact.{first_frame, end_frame}
 use Rattle.last_run.specs.declared.FrameRun.{FrameRun}
 use Rattle.last_run.proofs.Steps.{ends-nat}
@@ -47,8 +48,8 @@ unfolding frame_run
 frame_run-from row a b hi h = ap frames_of (ends-nat row hi (pos a) ∙ (rw h) ∙ sym (ends-nat row hi (pos b)))
 
 -- ---- by what the code's parts give
-module _ (floor : Float) (levels : List Float) (short : length levels ≤ 2 ^ 40) (from to : Float) where
-  pub between_is : {lo hi : ℕ} {f : Option FrameRun} {r : Option Times} → lo ≡ min (to_nat (frame_at from)) (2 ^ 40) → hi ≡ min (length levels) (min (to_nat (frame_at to)) (2 ^ 40))
+module _ (floor : Float) (levels : List Float) (from to : Float) where
+  pub between_is : {lo hi : ℕ} {f : Option FrameRun} {r : Option Times} → lo ≡ to_nat (frame_at from) → hi ≡ min (length levels) (to_nat (frame_at to))
       → f ≡ frame_run (loud_row floor levels) (pos lo) (pos hi) → r ≡ seconds_of f → r ≡ last_run (loud_row floor levels) from to
   between_is {lo} {hi} islo ishi ef er =
       let a = from_zero-nat from in
@@ -58,6 +59,15 @@ module _ (floor : Float) (levels : List Float) (short : length levels ≤ 2 ^ 40
       let g : hi - lo ≡ hi - first_frame from = rw a (omega arith) in
       er ∙ ap seconds_of (ef ∙ frame_run-from (loud_row floor levels) lo (first_frame from) hi g ∙ ap (λ (h : ℕ). frame_run (loud_row floor levels) (pos (first_frame from)) (pos h)) e)
       ∙ sym (last_run-is (loud_row floor levels) from to)
+
+-- ---- a run that ends before frame m ends before a later frame, and its last frame is a number that has a next one
+pub sooner : (r : Option FrameRun) {m n : ℕ} → IfSome r (λ (run : FrameRun). run.last < m) → m ≤ n → IfSome r (λ (run : FrameRun). run.last < n)
+sooner (Some run) h l = omega (arith, h, l)
+sooner None h l = tt
+
+pub last-fits : (r : Option FrameRun) {n : ℕ} → IfSome r (λ (run : FrameRun). run.last < n) → n ≤ 2 ^ 62 → last_frame r + 1 < 2 ^ 64
+last-fits (Some run) h l = omega (arith, h, l)
+last-fits None h l = omega arith
 
 -- ---- a run in seconds
 pub seconds-found : {r : Option FrameRun} {s e : Float} (first last : ℕ) → r ≡ Some (frames first last) → s ≡ frame_seconds (pos first) → e ≡ frame_seconds (pos (last + 1)) → Some (times s e) ≡ seconds_of r

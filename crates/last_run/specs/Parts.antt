@@ -1,5 +1,5 @@
 -- What only the contracts of unchecked parts cite; a reader of the public call may skip it. Assumes nothing.
-use Rattle.std.specs.Prelude.{ℕ, ◌≤◌, ◌^◌, cond, eqb, pos, negsuc, Option, Some, None}
+use Rattle.std.specs.Prelude.{ℕ, cond, eqb, pos, negsuc, Option, Some, None}
 use Rattle.std.proofs.Math.IntN.{pred_ℤ}
 use Rattle.base.specs.Loop.{Turn, on, out}
 use Rattle.last_run.specs.LastRun.{Ends}
@@ -13,10 +13,6 @@ ends_of s = record { end = pred_ℤ (pos s.past); start = cond (eqb s.past 0) (n
 -- ---- How a turn ended: it left the loop where the search is over.
 unfoldable pub turn_of : Search → Turn Ends
 turn_of s = cond s.over (out (ends_of s)) (on (ends_of s))
-
--- ---- The search stands at frames up to 2 ^ 40.
-abbrev pub Low : Search → Type 0
-Low s = (s.first ≤ 2 ^ 40) × (s.past ≤ 2 ^ 40)
 
 -- ---- The last frame of a run; 0 where there is none.
 abbrev pub last_frame : Option FrameRun → ℕ

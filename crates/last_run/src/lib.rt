@@ -1,14 +1,15 @@
 // The last run of sound between two times (fit.rs, last_run).
 #![tactic(auto)]
 
-ghost use Rattle.std.specs.Prelude.{◌≡◌, true, false, ◌||◌, ◌<◌, ◌≤◌, ◌^◌, pos, length};
+ghost use Rattle.std.specs.Prelude.{◌≡◌, false, ◌||◌, ◌+◌, ◌<◌, ◌≤◌, ◌^◌, max, pos, length, IfSome};
 ghost use Rattle.base.specs.Refusals.{first};
 ghost use Rattle.limits.specs.Limits.{bad_time};
 ghost use Rattle.last_run.specs.LastRun.{back_step, ends_between, frames_of, frame_run, seconds_of, last_run, tests, last_run_call};
-ghost use Rattle.last_run.specs.Parts.{ends_of, turn_of, Low, last_frame};
+ghost use Rattle.last_run.specs.Parts.{ends_of, turn_of, last_frame};
 ghost use Rattle.envelope.specs.Frames.{loud_in};
 
 use base::{END_SILENCE, Refusal, Times};
+use envelope::frame_range::FrameRange;
 use envelope::view::Envelope;
 
 // The last frame of a run that counts lies so many frames behind the first, or more.
@@ -30,62 +31,42 @@ pub struct Search {
     pub over: bool,
 }
 
-// A loud frame: the run so far begins here.
-fn at_loud(s: Search, k: usize) -> Search
-    requires { (k < 2 ^ 40) × Low s }
-    ensures { (turn_of result ≡ back_step true (pos k) (ends_of s)) × Low result }
+// One step of the search, at frame k: at a loud one the run so far begins; a quiet one ends it where more than 15 of them lie before it.
+pub fn step(s: Search, loud: bool, k: usize) -> Search
+    requires { (s.over ≡ false) × (k ≤ 2 ^ 62) }
+    ensures { (turn_of result ≡ back_step loud (pos k) (ends_of s))
+        × ((result.first ≤ max s.first k) × (result.past ≤ max s.past (k + 1))) }
 {
-    if s.past == 0 {
-        return Search {
+    match (loud, s.past) {
+        (true, 0) => Search {
             first: k,
             past: k + 1,
             over: false,
-        };
-    }
-    Search {
-        first: k,
-        past: s.past,
-        over: false,
-    }
-}
-
-// A quiet frame: the run is over where more than 15 of them lie before it.
-fn at_quiet(s: Search, k: usize) -> Search
-    requires { (s.over ≡ false) × ((k < 2 ^ 40) × Low s) }
-    ensures { (turn_of result ≡ back_step false (pos k) (ends_of s)) × Low result }
-{
-    if s.past == 0 {
-        return s;
-    }
-    Search {
-        first: s.first,
-        past: s.past,
-        over: k + END_SILENCE < s.first,
+        },
+        (true, past) => Search {
+            first: k,
+            past,
+            over: false,
+        },
+        (false, 0) => s,
+        (false, past) => Search {
+            first: s.first,
+            past,
+            over: k + END_SILENCE < s.first,
+        },
     }
 }
 
-// One step of the search, at frame k.
-pub fn step(s: Search, loud: bool, k: usize) -> Search
-    requires { (s.over ≡ false) × ((k < 2 ^ 40) × Low s) }
-    ensures { (turn_of result ≡ back_step loud (pos k) (ends_of s)) × Low result }
-{
-    if loud {
-        return at_loud(s, k);
-    }
-    at_quiet(s, k)
-}
-
-// The search back from before frame hi, down to frame lo.
-fn search_back(e: Envelope<'_>, lo: usize, hi: usize) -> Search
-    requires { hi ≤ 2 ^ 40 }
-    ensures { (ends_of result ≡ ends_between (loud_in e.entry) (pos lo) (pos hi)) × Low result }
+// The search back from the last of these frames to the first.
+fn search_back(e: Envelope<'_>, r: FrameRange) -> Search
+    ensures { (ends_of result ≡ ends_between (loud_in e.entry) (pos r.lo) (pos r.hi)) × (result.past ≤ r.hi) }
 {
     let mut s = Search {
         first: 0,
         past: 0,
         over: false,
     };
-    for k in (lo..hi).rev() {
+    for k in (r.lo..r.hi).rev() {
         s = step(s, e.loud(k), k);
         if s.over {
             return s;
@@ -96,32 +77,31 @@ fn search_back(e: Envelope<'_>, lo: usize, hi: usize) -> Search
 
 // The run that a search found, where it is long enough.
 pub fn frames_of(s: Search) -> Option<FrameRun>
-    requires { Low s }
-    ensures { (result ≡ frames_of (ends_of s)) × (last_frame result < 2 ^ 40) }
+    ensures { (result ≡ frames_of (ends_of s)) × IfSome result (λ run. run.last < s.past) }
 {
     if s.past == 0 {
         return None;
     }
-    if s.past - 1 < s.first + MIN_RUN {
+    let last = s.past - 1;
+    if last.saturating_sub(s.first) < MIN_RUN {
         return None;
     }
     Some(FrameRun {
         first: s.first,
-        last: s.past - 1,
+        last,
     })
 }
 
-// The last run of the frames from lo to before hi.
-pub fn frame_run(e: Envelope<'_>, lo: usize, hi: usize) -> Option<FrameRun>
-    requires { hi ≤ 2 ^ 40 }
-    ensures { (result ≡ frame_run (loud_in e.entry) (pos lo) (pos hi)) × (last_frame result < 2 ^ 40) }
+// The last run of these frames.
+pub fn frame_run(e: Envelope<'_>, r: FrameRange) -> Option<FrameRun>
+    ensures { (result ≡ frame_run (loud_in e.entry) (pos r.lo) (pos r.hi)) × IfSome result (λ run. run.last < r.hi) }
 {
-    frames_of(search_back(e, lo, hi))
+    frames_of(search_back(e, r))
 }
 
 // A run's start and end in seconds, if there is one.
 pub fn seconds_of(r: Option<FrameRun>) -> Option<Times>
-    requires { last_frame r < 2 ^ 40 }
+    requires { last_frame r + 1 < 2 ^ 64 }
     ensures { result ≡ seconds_of r }
 {
     let run = r?;
@@ -133,12 +113,9 @@ pub fn seconds_of(r: Option<FrameRun>) -> Option<Times>
 
 // The last run between two times, if there is sound (fit.rs, last_run); nothing is checked.
 pub fn run_between(e: Envelope<'_>, from: f64, to: f64) -> Option<Times>
-    requires { length e.levels.now ≤ 2 ^ 40 }
     ensures { result ≡ last_run (loud_in e.entry) from to }
 {
-    let lo = frames::frame_index(from);
-    let hi = e.levels.len().min(frames::frame_index(to));
-    seconds_of(frame_run(e, lo, hi))
+    seconds_of(frame_run(e, e.between(from, to)))
 }
 
 // Whether one of two times is outside its range.

@@ -68,13 +68,13 @@ module _ (m len : ℕ) (fits : len ≤ m) where
   first_count ws even = length-take-le len ws.keys (omega arith)
 
   -- keys alone say where the words go on
-  goes-keys : (n i p rest : ℕ) (ws : Words) → goes_on n i (drain p rest (first_words len ws)) ≡ goes_on n i (held_keys p rest len ws.keys)
+  goes-keys : (n i p rest : ℕ) (ws : Words) → goes_on n i (drain p rest (first_words len ws)) ≡ goes_on n i (held_keys p rest (take len ws.keys))
   unfolding goes_on is_loop same copies_end first_words held_keys
   goes-keys n i p rest ws = refl
 
   module _ (n : ℕ) where
     module _ (ws : Words) (even : OneLength m ws) where
-      turn-made : (i rest r : ℕ) → i + n ≤ rest → rest ≤ r → r ≤ len → i + n + (r - rest) ≡ goes_on n i (held_keys (i + n) rest len ws.keys)
+      turn-made : (i rest r : ℕ) → i + n ≤ rest → rest ≤ r → r ≤ len → i + n + (r - rest) ≡ goes_on n i (held_keys (i + n) rest (take len ws.keys))
           → drain (i + n) r (first_words len ws) ≡ turn_words n i (drain (i + n) rest (first_words len ws))
       unfolding turn_words
       turn-made i rest r h k l g =
@@ -83,7 +83,7 @@ module _ (m len : ℕ) (fits : len ≤ m) where
           (again ws.letters even.1.1.0 (i + n) rest r h k l) (again ws.units even.1.1.1.0 (i + n) rest r h k l)
           (again ws.keys even.1.1.1.1 (i + n) rest r h k l))
 
-      turn : (i rest r : ℕ) → i < len → i + n ≤ rest → rest ≤ r → r ≤ len → i + n + (r - rest) ≡ goes_on n i (held_keys (i + n) rest len ws.keys)
+      turn : (i rest r : ℕ) → i < len → i + n ≤ rest → rest ≤ r → r ≤ len → i + n + (r - rest) ≡ goes_on n i (held_keys (i + n) rest (take len ws.keys))
           → each (turn_words n) (len - i) i (drain (i + n) rest (first_words len ws)) ≡ after len n i r ws
       unfolding after
       turn i rest r b h k l g = each_next (turn_words n) len i b (turn-made i rest r h k l g)
@@ -100,7 +100,7 @@ module _ (m len : ℕ) (fits : len ≤ m) where
       unfolding pass_words
       pass-short h = sym (idle n (count (first_words len ws)) 0 (first_words len ws) (omega (arith, first_count ws even)))
 
-      pub after_first : (r : ℕ) → 0 < len → n ≤ r → r ≤ len → 0 + n + (r - n) ≡ goes_on n 0 (held_keys (0 + n) n len ws.keys)
+      pub after_first : (r : ℕ) → 0 < len → n ≤ r → r ≤ len → 0 + n + (r - n) ≡ goes_on n 0 (held_keys (0 + n) n (take len ws.keys))
           → pass_words n (first_words len ws) ≡ after len n 0 r ws
       unfolding pass_words
       after_first r b h k g =
@@ -120,7 +120,7 @@ module _ (m len : ℕ) (fits : len ≤ m) where
           rw gone (idle n (len - (i + 1)) (i + 1) (first_words (i + n) ws) (omega arith))
 
     pub after_next : 0 < n → (ws ws' : Words) → OneLength m ws → OneLength m ws' → (i rest r : ℕ) → i + n ≤ rest → rest < len → ws' ≡ moved (i + n) rest ws → rest + 1 ≤ r → r ≤ len
-        → i + 1 + n + (r - (rest + 1)) ≡ goes_on n (i + 1) (held_keys (i + 1 + n) (rest + 1) len ws'.keys) → after len n i rest ws ≡ after len n (i + 1) r ws'
+        → i + 1 + n + (r - (rest + 1)) ≡ goes_on n (i + 1) (held_keys (i + 1 + n) (rest + 1) (take len ws'.keys)) → after len n i rest ws ≡ after len n (i + 1) r ws'
     unfolding after
     after_next some ws ws' even even' i rest r h k e l b g =
         let z : i + n + 1 ≡ i + 1 + n = omega arith in

@@ -1,5 +1,5 @@
 -- What only the contracts of the unchecked core cite; a reader of the public call may skip it. Assumes nothing.
-use Rattle.std.specs.Prelude.{ℕ, ◌+◌, cond, List, [], ◌≡◌, take, get_or, set}
+use Rattle.std.specs.Prelude.{ℕ, ◌+◌, cond, List, [], ◌≡◌, get_or, set}
 use Rattle.std.specs.Float.{nan}
 use Rattle.base.specs.Words.{Words, words, count, words_in_places}
 use Rattle.loops.specs.Loops.{drained, is_loop, copies_end, max_run, drain, collapse_loops}
@@ -18,9 +18,9 @@ moved to from ws =
 abbrev pub only_keys : List ℕ → Words
 only_keys keys = words [] [] [] [] keys
 
--- ---- Where a pass stands, the keys are those before place `to`, and those from place `from` on, of the first so many.
-unfoldable pub held_keys : ℕ → ℕ → ℕ → List ℕ → Words
-held_keys to from m keys = only_keys (drained to from (take m keys))
+-- ---- Where a pass stands, the keys are those before place `to`, and those from place `from` on.
+unfoldable pub held_keys : ℕ → ℕ → List ℕ → Words
+held_keys to from keys = only_keys (drained to from keys)
 
 -- ---- Where the words go on behind the first copy at place i: behind its other copies, if these are a loop.
 unfoldable pub goes_on : ℕ → ℕ → Words → ℕ

@@ -1,9 +1,10 @@
 // What a pass does at one place: the copies of a run of keys are looked for, and a word moves up (loops.rs).
-ghost use Rattle.std.specs.Prelude.{◌+◌, ◌-◌, ◌≤◌, ◌<◌, ◌≡◌, length};
-ghost use Rattle.base.specs.Words.{words};
-ghost use Rattle.base.specs.Parts.{OneLength};
+ghost use Rattle.std.specs.Prelude.{◌+◌, ◌-◌, ◌≤◌, ◌<◌, ◌≡◌, length, take};
+ghost use Rattle.base.specs.WordListsMut.{words_of, SameLists};
 ghost use Rattle.loops.specs.Loops.{same as same_of, is_loop, copies_end};
 ghost use Rattle.loops.specs.Parts.{moved, only_keys, held_keys, goes_on};
+
+use base::word_lists_mut::WordListsMut;
 
 // So many equal runs side by side, or more, are a loop.
 pub const MIN_COPIES: usize = 3;
@@ -17,56 +18,50 @@ fn same(keys: &[u32], n: usize, a: usize, b: usize) -> bool
 }
 
 // Whether the n keys at i and those from `rest` on begin with three copies.
-fn is_loop(keys: &[u32], len: usize, n: usize, i: usize, rest: usize) -> bool
-    requires { (n ≤ 4) × ((i + n ≤ rest) × ((rest ≤ len) × (len ≤ length keys.now))) }
-    ensures { result ≡ is_loop n i (held_keys (i + n) rest len keys.now) }
+fn is_loop(keys: &[u32], n: usize, i: usize, rest: usize) -> bool
+    requires { (i + n ≤ rest) × (rest ≤ length keys.now) }
+    ensures { result ≡ is_loop n i (held_keys (i + n) rest keys.now) }
 {
-    (MIN_COPIES - 1) * n <= len - rest && same(keys, n, i, rest) && same(keys, n, i, rest + n)
+    (MIN_COPIES - 1) * n <= keys.len() - rest
+        && same(keys, n, i, rest)
+        && same(keys, n, i, rest + n)
 }
 
 // Where the copies of the n keys at i end, from `rest` on.
-fn copies_end(keys: &[u32], len: usize, n: usize, i: usize, rest: usize) -> usize
-    requires { (0 < n) × ((i + n ≤ rest) × ((rest ≤ len) × (len ≤ length keys.now))) }
-    ensures { (i + n + (result - rest) ≡ copies_end n (held_keys (i + n) rest len keys.now) i) × ((rest ≤ result) × (result ≤ len)) }
+fn copies_end(keys: &[u32], n: usize, i: usize, rest: usize) -> usize
+    requires { (0 < n) × ((i + n ≤ rest) × (rest ≤ length keys.now)) }
+    ensures { (i + n + (result - rest) ≡ copies_end n (held_keys (i + n) rest keys.now) i) × ((rest ≤ result) × (result ≤ length keys.now)) }
 {
     let mut end = rest;
-    while n <= len - end && same(keys, n, i, end) {
+    while n <= keys.len() - end && same(keys, n, i, end) {
         end += n;
     }
     end
 }
 
-// Where the words go on behind the n at i: behind all their copies, if these are a loop.
-pub fn past_loop(keys: &[u32], len: usize, n: usize, i: usize, rest: usize) -> usize
-    requires { (0 < n) × ((n ≤ 4) × ((i + n ≤ rest) × ((rest ≤ len) × (len ≤ length keys.now)))) }
-    ensures { (i + n + (result - rest) ≡ goes_on n i (held_keys (i + n) rest len keys.now)) × ((rest ≤ result) × (result ≤ len)) }
+// Where the first `len` words go on behind the n at i: behind all their copies, if these are a loop.
+pub(crate) fn past_loop(w: &WordListsMut<'_>, len: usize, n: usize, i: usize, rest: usize) -> usize
+    requires { (0 < n) × ((i + n ≤ rest) × ((rest ≤ len) × (len ≤ length w.now.keys.now))) }
+    ensures { let counted = take len w.now.keys.now in
+        (i + n + (result - rest) ≡ goes_on n i (held_keys (i + n) rest counted)) × ((rest ≤ result) × (result ≤ len)) }
 {
-    if is_loop(keys, len, n, i, rest) {
-        copies_end(keys, len, n, i, rest)
+    let keys = &w.keys[..len];
+    if is_loop(keys, n, i, rest) {
+        copies_end(keys, n, i, rest)
     } else {
         rest
     }
 }
 
 // Puts the word at place `from` at place `to`.
-pub fn move_word(
-    starts: &mut [f64],
-    ends: &mut [f64],
-    letters: &mut [u32],
-    units: &mut [u32],
-    keys: &mut [u32],
-    to: usize,
-    from: usize,
-)
-    requires { (OneLength (length keys.old) (words starts.old ends.old letters.old units.old keys.old))
-        × ((to < length keys.old) × (from < length keys.old)) }
-    ensures { let before = words starts.old ends.old letters.old units.old keys.old in
-        let after = words starts.new ends.new letters.new units.new keys.new in
-        after ≡ moved to from before }
+pub(crate) fn move_word(w: &mut WordListsMut<'_>, to: usize, from: usize)
+    requires { (to < length w.old.keys.now) × (from < length w.old.keys.now) }
+    ensures same { SameLists w.old w.new }
+    ensures moved { words_of w.new ≡ moved to from (words_of w.old) }
 {
-    starts[to] = starts[from];
-    ends[to] = ends[from];
-    letters[to] = letters[from];
-    units[to] = units[from];
-    keys[to] = keys[from];
+    w.starts[to] = w.starts[from];
+    w.ends[to] = w.ends[from];
+    w.letters[to] = w.letters[from];
+    w.units[to] = w.units[from];
+    w.keys[to] = w.keys[from];
 }

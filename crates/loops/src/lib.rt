@@ -3,12 +3,13 @@
 
 ghost use Rattle.std.specs.Prelude.{◌≡◌, length};
 ghost use Rattle.base.specs.Words.{words};
-ghost use Rattle.base.specs.Parts.{OneLength};
+ghost use Rattle.base.specs.WordListsMut.{words_of, SameLists};
 ghost use Rattle.loops.specs.Loops.{output, collapse_call};
 ghost use Rattle.loops.specs.Parts.{Collapsing};
 
 use base::Refusal;
 use base::word_lists::WordLists;
+use base::word_lists_mut::WordListsMut;
 
 pub mod copy;
 pub mod pass;
@@ -21,23 +22,16 @@ pub struct Left {
 }
 
 // Collapses all loops in place, unchecked (loops.rs, collapse_loops).
-pub fn collapse(
-    starts: &mut [f64],
-    ends: &mut [f64],
-    letters: &mut [u32],
-    units: &mut [u32],
-    keys: &mut [u32],
-) -> Left
-    requires { OneLength (length keys.old) (words starts.old ends.old letters.old units.old keys.old) }
-    ensures { let before = words starts.old ends.old letters.old units.old keys.old in
-        let after = words starts.new ends.new letters.new units.new keys.new in
-        Collapsing result before after }
+pub fn collapse(w: &mut WordListsMut<'_>) -> Left
+    ensures same { SameLists w.old w.new }
+    ensures as_many { length w.new.keys.now ≡ length w.old.keys.now }
+    ensures collapsed { Collapsing result (words_of w.old) (words_of w.new) }
 {
-    let len = pass::passes(starts, ends, letters, units, keys);
-    base::clear(starts, ends, letters, units, keys, len);
+    let len = pass::passes(w);
+    w.clear(len);
     Left {
         count: len,
-        found: len < keys.len(),
+        found: len < w.keys.len(),
     }
 }
 
@@ -61,5 +55,12 @@ pub fn collapse_loops(
         keys,
     };
     limits::chain(word_calls::of_words(words))?;
-    Ok(collapse(starts, ends, letters, units, keys))
+    let mut w = WordListsMut {
+        starts,
+        ends,
+        letters,
+        units,
+        keys,
+    };
+    Ok(collapse(&mut w))
 }

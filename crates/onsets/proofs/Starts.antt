@@ -21,7 +21,7 @@ use Rattle.base.proofs.Loops.{back-out, back-next, back-stop, back_done, back-na
 use Rattle.js.specs.Js.{js_min}
 use Rattle.frames.specs.Frames.{frame_at, frame_ceil, frame_seconds}
 use Rattle.envelope.specs.Envelope.{loud}
-use Rattle.envelope.specs.Parts.{Met}
+use Rattle.envelope.specs.Parts.{Throughout, IsFirst}
 use Rattle.onsets.specs.Onsets.{pause, Onset, back_turn, onset_frame, onset_of, prev_end, onset_turn}
 use Rattle.onsets.specs.Parts.{goes_on, onset_seconds}
 
@@ -89,7 +89,7 @@ module _ (row : List Bool) where
   unfolding rises_at
   rises-first f lo = onset-starts f lo
 
-  module _ {x : ℤ} {from : ℕ} (lo onset k : ℕ) (below : lo < onset) (is : from ≡ max lo (onset - 8)) (m : Met row true from onset k) (e : x ≡ rises_at lo onset) where
+  module _ {x : ℤ} {from : ℕ} (lo onset : ℕ) (below : lo < onset) (is : from ≡ max lo (onset - 8)) (e : x ≡ rises_at lo onset) where
     -- above frame j, where the first loud one so far is p
     Stands : ℕ → ℕ → Type 0
     Stands j p = (j ≤ p) × ((p ≤ onset) × (x ≡ (run_back (back_turn row) (j - lo) (pred_ℤ (pos j)) (on (met j p))).onset))
@@ -129,24 +129,25 @@ module _ (row : List Bool) where
         (quiet-on d (j + 1) (omega arith) (omega arith) (omega arith) (λ (i : ℕ) (p : j + 1 ≤ i) (q : i < onset). a i (omega arith) q)))
 
     -- and the turn at the first loud frame
-    arrives : (j p : ℕ) → j ≡ k + 1 → k < onset → lo < j → Stands j p → x ≡ (run_back (back_turn row) (k - lo) (pred_ℤ (pos k)) (on (met k k))).onset
+    arrives : (k j p : ℕ) → loud row (pos k) ≡ true → j ≡ k + 1 → k < onset → lo < j → Stands j p → x ≡ (run_back (back_turn row) (k - lo) (pred_ℤ (pos k)) (on (met k k))).onset
     unfolding Stands
-    arrives j p y l h (a, (b, r)) =
+    arrives k j p found y l h (a, (b, r)) =
         let z : j - 1 ≡ k = omega arith in
-        let f : loud row (pos (j - 1)) ≡ true = rw z (m.found l) in
+        let f : loud row (pos (j - 1)) ≡ true = rw z found in
         let n : j - 1 ≡ cond (loud row (pos (j - 1))) (j - 1) p = rw f in
         rw z at (onset-next j p (omega arith) a n lo h (omega arith) r)
 
-    pub rises-on : k < onset → x ≡ rises_at lo k
+    pub rises-on : (k : ℕ) → IsFirst row true from onset k → x ≡ rises_at lo k
     unfolding rises_at
-    rises-on h =
+    rises-on k m =
         let t = m.from in
-        let s = stands (onset - (k + 1)) (k + 1) (omega arith) (omega arith) (omega arith) in arrives (k + 1) s.0 refl h (omega arith) s.1
+        let h = m.to in
+        let s = stands (onset - (k + 1)) (k + 1) (omega arith) (omega arith) (omega arith) in arrives k (k + 1) s.0 m.found refl h (omega arith) s.1
 
-    pub rises-here : onset ≤ k → pos onset ≡ x
-    rises-here h = go (leb (lo + 8) onset) refl where
+    pub rises-here : Throughout row false from onset → pos onset ≡ x
+    rises-here quiet = go (leb (lo + 8) onset) refl where
       all : (i : ℕ) → max lo (onset - 8) ≤ i → i < onset → loud row (pos i) ≡ false
-      all i p q = m.none i (rw is p) (omega arith)
+      all i p q = quiet i (rw is p) q
 
       go : (t : Bool) → leb (lo + 8) onset ≡ t → pos onset ≡ x
       go true t =
@@ -173,10 +174,13 @@ module _ (row : List Bool) where
       go (pos n) h stop = absurd (omega (arith, ltb-true n 0 h))
       go (negsuc j) h stop = sym (frame_below j stop)
 
-    pub seconds-from : {r : Float} {c : ℤ} {f n lo onset : ℕ} → lt_z z (pos 0) ≡ false → f ≡ to_nat z → c ≡ frame_ceil before → n ≡ to_nat c → lo ≡ max n (f - 60)
+    pub seconds-from : {r : Float} {f n lo onset : ℕ} → lt_z z (pos 0) ≡ false → f ≡ to_nat z → n ≡ to_nat (frame_ceil before) → lo ≡ max n (f - 60)
         → pos onset ≡ onset_frame row (pos f) (pos lo) → r ≡ frame_seconds (pos onset) → r ≡ onset_seconds row before start
     unfolding onset_seconds
-    seconds-from {c = c} {f = f} {n = n} {lo = lo} {onset = onset} h ef ec en el eo e = e ∙ ap frame_seconds (go z h ef) ∙ rw (isz, ec) where
+    seconds-from {f = f} {n = n} {lo = lo} {onset = onset} h ef en el eo e = e ∙ ap frame_seconds (go z h ef) ∙ rw isz where
+      c : ℤ
+      c = frame_ceil before
+
       go : (y : ℤ) → lt_z y (pos 0) ≡ false → f ≡ to_nat y → pos onset ≡ onset_frame row y (max_z c (y -ℤ pos 60))
       go (negsuc j) h g = absurd (let w : ◌≡◌ {A = ℕ} 0 1 = cc in omega arith)
       go (pos m) h g =

@@ -31,10 +31,9 @@ fn onset_back(e: Envelope<'_>, lo: usize, f: usize) -> usize
     let mut onset = f;
     while lo < onset {
         let from = frames_back(lo, onset, EDGE_QUIET);
-        let k = e.first_frame(true, from, onset);
-        if onset <= k {
+        let Some(k) = e.first_frame(true, from, onset) else {
             return onset;
-        }
+        };
         onset = k;
     }
     onset
@@ -49,7 +48,7 @@ fn onset_seconds(e: Envelope<'_>, prev_end: f64, start: f64) -> f64
         return frames::frame_seconds(z);
     }
     let f = frames::to_index(z);
-    let lo = frames_back(frames::to_index(frames::frame_ceil(prev_end)), f, MAX_BACK);
+    let lo = frames_back(frames::index_ceil(prev_end), f, MAX_BACK);
     frames::index_seconds(onset_back(e, lo, f))
 }
 

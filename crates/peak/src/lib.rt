@@ -8,7 +8,7 @@ ghost use Rattle.base.specs.Loop.{range};
 ghost use Rattle.base.specs.Refusals.{first};
 ghost use Rattle.peak.specs.Peak.{peak_turn, word_peak, tests, peak_call};
 
-use base::Refusal;
+use base::{Refusal, Times};
 use frames::RATE;
 
 // The largest magnitude of the samples from one to before another (transcriber.rs, peak).
@@ -28,15 +28,15 @@ fn loudest(samples: &[f32], from: usize, to: usize) -> f64
 fn end_index(n: usize, k: i64) -> usize
     ensures { result ≡ min n (to_nat k) }
 {
-    n.min(usize::try_from(k).unwrap_or(0))
+    n.min(frames::to_index(k))
 }
 
 // The largest magnitude of the samples that a word spans, for any times; NaN where it reaches before sample 0 (transcriber.rs, peak).
-fn word_peak(samples: &[f32], start: f64, end: f64) -> f64
-    ensures { result ≡ word_peak samples.now start end }
+fn word_peak(samples: &[f32], w: Times) -> f64
+    ensures { result ≡ word_peak samples.now w.start w.end }
 {
-    let from = frames::floor_i64(start * RATE);
-    let to = frames::ceil_i64(end * RATE);
+    let from = frames::floor_i64(w.start * RATE);
+    let to = frames::ceil_i64(w.end * RATE);
     if from < 0 {
         if from < to {
             return f64::NAN;
@@ -48,22 +48,22 @@ fn word_peak(samples: &[f32], start: f64, end: f64) -> f64
 
 // The first refusal that applies, of 4 and 1.
 #[tactic(auto, unfolding(crate::specs::Peak::tests, base::specs::Refusals::first))]
-fn judge(samples: &[f32], start: f64, end: f64) -> Result<(), Refusal>
-    ensures { result ≡ first (tests samples.now start end) }
+fn judge(samples: &[f32], w: Times) -> Result<(), Refusal>
+    ensures { result ≡ first (tests samples.now w.start w.end) }
 {
     if limits::sizes::many_samples(samples.len()) {
         return Err(Refusal::Counts);
     }
-    if limits::times::bad_time(start) || limits::times::bad_time(end) {
+    if limits::times::bad_time(w.start) || limits::times::bad_time(w.end) {
         return Err(Refusal::Time);
     }
     Ok(())
 }
 
 // The largest magnitude of the samples that a word spans, for times within the limits (transcriber.rs, peak).
-pub fn peak(samples: &[f32], start: f64, end: f64) -> Result<f64, Refusal>
-    ensures { result ≡ peak_call samples.now start end }
+pub fn peak(samples: &[f32], w: Times) -> Result<f64, Refusal>
+    ensures { result ≡ peak_call samples.now w.start w.end }
 {
-    judge(samples, start, end)?;
-    Ok(word_peak(samples, start, end))
+    judge(samples, w)?;
+    Ok(word_peak(samples, w))
 }

@@ -1,6 +1,6 @@
 -- The call `align_phrases` in plain words: accepted exactly when all is within the limits and the places suffice, refused exactly with the first refusal
 -- that applies, and that a refusal changes nothing; and for the code what its tests found. By reading what the tests find. Assumes nothing.
-use Rattle.std.specs.Prelude.{Ok, Err}
+use Rattle.std.specs.Prelude.{Result, Ok, Err}
 use Prim.Native.Nat.{ℕ}
 use mathlib.Core.Path.{◌≡◌, refl, sym, ap, ◌∙◌}
 use mathlib.Core.Logic.{◌↔◌}
@@ -87,3 +87,7 @@ module _ (ws : Words) (spans : Spans) (phrases : List ℕ) where
 
     pub accepted-made : {o : Output} → found ≡ Ok tt → o ≡ accepted (align_phrases ws spans) (count ws) phrases → o ≡ align_call ws spans phrases
     accepted-made f m = m ∙ sym (call_by (sym is ∙ f))
+
+-- ---- what is left, by equal words
+pub left-alike : {answer : Result ℕ Refusal} {ws ws' : Words} {phrases : List ℕ} → ws ≡ ws' → output answer ws phrases ≡ output answer ws' phrases
+left-alike e = rw e

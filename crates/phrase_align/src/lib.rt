@@ -3,40 +3,33 @@
 
 ghost use Rattle.std.specs.Prelude.{◌≡◌, ◌≤◌, length};
 ghost use Rattle.base.specs.Words.{words};
+ghost use Rattle.base.specs.SpanList.{spans_of as list_of};
 ghost use Rattle.base.specs.Spans.{spans_of};
-ghost use Rattle.base.specs.Parts.{OneLength};
+ghost use Rattle.base.specs.WordListsMut.{words_of, SameLists};
 ghost use Rattle.phrase_align.specs.PhraseAlign.{align_phrases, output, accepted, align_call};
 
 use base::Refusal;
+use base::span_list::SpanList;
 use base::spans::Spans;
 use base::word_lists::WordLists;
+use base::word_lists_mut::WordListsMut;
 
 pub mod place;
 
 // Places words in the spans of their phrases, and makes the places of surplus words zero (phrase_align.rs, align_phrases); nothing is checked.
-pub fn place_words(
-    starts: &mut [f64],
-    ends: &mut [f64],
-    letters: &mut [u32],
-    units: &mut [u32],
-    keys: &mut [u32],
-    phrases: &mut [u32],
-    spans: Spans<'_>,
-) -> usize
-    requires { (OneLength (length keys.old) (words starts.old ends.old letters.old units.old keys.old))
-        × ((length keys.old ≤ 4096)
-        × ((length keys.old ≤ length phrases.old)
-        × ((length spans.ends.now ≡ length spans.starts.now)
-        × ((length spans.counts.now ≡ length spans.starts.now) × (length spans.starts.now ≤ 4096))))) }
-    ensures { let before = words starts.old ends.old letters.old units.old keys.old in
-        let after = words starts.new ends.new letters.new units.new keys.new in
-        let all_spans = spans_of spans.entry in
-        output (Ok result) after phrases.new
-        ≡ accepted (align_phrases before all_spans) (length keys.old) phrases.old }
+pub fn place_words(w: &mut WordListsMut<'_>, phrases: &mut [u32], spans: SpanList<'_>) -> usize
+    requires { (length w.old.keys.now ≤ 4096) × (length w.old.keys.now ≤ length phrases.old) }
+    ensures same { SameLists w.old w.new }
+    ensures as_many { length w.new.keys.now ≡ length w.old.keys.now }
+    ensures placed { let all_spans = list_of spans.entry in
+        output (Ok result) (words_of w.new) phrases.new
+        ≡ accepted (align_phrases (words_of w.old) all_spans) (length w.old.keys.now) phrases.old }
 {
-    let at = place::place_spans(starts, ends, letters, phrases, spans);
-    place::number_words(phrases, at, keys.len(), 0);
-    base::clear(starts, ends, letters, units, keys, at);
+    // The letters are only read: lent on their own, they are known to stay.
+    let letters = &mut *w.letters;
+    let at = place::place_spans(w.starts, w.ends, letters, phrases, spans);
+    place::number_words(phrases, at, w.keys.len(), 0);
+    w.clear(at);
     at
 }
 
@@ -67,6 +60,18 @@ pub fn align_phrases(
         phrases.len(),
         keys.len(),
     )?;
-    let n = place_words(starts, ends, letters, units, keys, phrases, spans);
+    let mut w = WordListsMut {
+        starts,
+        ends,
+        letters,
+        units,
+        keys,
+    };
+    let spans = SpanList {
+        starts: spans.starts,
+        ends: spans.ends,
+        counts: spans.counts,
+    };
+    let n = place_words(&mut w, phrases, spans);
     Ok(n)
 }

@@ -6,6 +6,7 @@ ghost use Rattle.envelope.specs.Frames.{quiet_in};
 ghost use Rattle.pieces.specs.Pieces.{cut};
 ghost use Rattle.pieces.specs.Parts.{middle, quiet_start, quiet_end, Stands};
 
+use super::window::Window;
 use envelope::view::Envelope;
 
 // The most frames in one piece: 20 s.
@@ -31,12 +32,12 @@ fn is_quiet(level: f64, floor: f64) -> bool
 }
 
 // Where the quiet frames before `to` start, at `from` at the earliest.
-fn quiet_from(part: &[f64], floor: f64, from: usize, to: usize) -> usize
-    requires { (length part.now ≡ 800) × ((from ≤ to) × (to ≤ 800)) }
-    ensures { (result ≡ quiet_start (quiet_row floor part.now) from to) × ((from ≤ result) × (result ≤ to)) }
+fn quiet_from(w: Window<'_>, from: usize, to: usize) -> usize
+    requires { (from ≤ to) × (to ≤ 800) }
+    ensures { (result ≡ quiet_start (quiet_row w.entry.floor w.entry.levels.now) from to) × ((from ≤ result) × (result ≤ to)) }
 {
     for k in (from..to).rev() {
-        if !is_quiet(part[k], floor) {
+        if !is_quiet(w.levels[k], w.floor) {
             return k + 1;
         }
     }
@@ -44,12 +45,12 @@ fn quiet_from(part: &[f64], floor: f64, from: usize, to: usize) -> usize
 }
 
 // Where the quiet frames from `from` on end.
-fn quiet_to(part: &[f64], floor: f64, from: usize) -> usize
-    requires { (length part.now ≡ 800) × (from ≤ 800) }
-    ensures { (result ≡ quiet_end (quiet_row floor part.now) from) × ((from ≤ result) × (result ≤ 800)) }
+fn quiet_to(w: Window<'_>, from: usize) -> usize
+    requires { from ≤ 800 }
+    ensures { (result ≡ quiet_end (quiet_row w.entry.floor w.entry.levels.now) from) × ((from ≤ result) × (result ≤ 800)) }
 {
     for k in from..SEARCH_FRAMES {
-        if !is_quiet(part[k], floor) {
+        if !is_quiet(w.levels[k], w.floor) {
             return k;
         }
     }
@@ -58,13 +59,13 @@ fn quiet_to(part: &[f64], floor: f64, from: usize) -> usize
 
 // The search, one step on: it looks at one frame more than the longest run has, the last of them first; it goes on behind the first that
 // is not quiet, or, where all are quiet, behind the end of their run.
-fn search_run(part: &[f64], floor: f64, q: Quiet) -> Quiet
-    requires { (length part.now ≡ 800) × ((q.start + q.longest < 800) × Stands (quiet_row floor part.now) q) }
-    ensures { Stands (quiet_row floor part.now) result × (q.start < result.start) }
+fn search_run(w: Window<'_>, q: Quiet) -> Quiet
+    requires { (q.start + q.longest < 800) × Stands (quiet_row w.floor w.levels.now) q }
+    ensures { Stands (quiet_row w.entry.floor w.entry.levels.now) result × (q.start < result.start) }
 {
     let start = q.start;
     let to = start + q.longest + 1;
-    let from = quiet_from(part, floor, start, to);
+    let from = quiet_from(w, start, to);
     if start < from {
         return Quiet {
             start: from,
@@ -72,7 +73,7 @@ fn search_run(part: &[f64], floor: f64, q: Quiet) -> Quiet
             middle: q.middle,
         };
     }
-    let end = quiet_to(part, floor, to);
+    let end = quiet_to(w, to);
     let longest = end - start;
     Quiet {
         start: end + 1,
@@ -83,9 +84,8 @@ fn search_run(part: &[f64], floor: f64, q: Quiet) -> Quiet
 
 // The place of a cut in the frames searched; past them where they hold none (an `Option` would be no plainer: the cut then stands at the
 // end, and needs no case).
-fn find_middle(part: &[f64], floor: f64) -> usize
-    requires { length part.now ≡ 800 }
-    ensures { (result ≡ middle (quiet_row floor part.now)) × (result ≤ 800) }
+fn find_middle(w: Window<'_>) -> usize
+    ensures { (result ≡ middle (quiet_row w.entry.floor w.entry.levels.now)) × (result ≤ 800) }
 {
     let mut q = Quiet {
         start: 0,
@@ -93,7 +93,7 @@ fn find_middle(part: &[f64], floor: f64) -> usize
         middle: SEARCH_FRAMES,
     };
     while q.start + q.longest < SEARCH_FRAMES {
-        q = search_run(part, floor, q);
+        q = search_run(w, q);
     }
     q.middle
 }
@@ -105,5 +105,9 @@ pub fn find_cut(e: Envelope<'_>, from: usize) -> usize
 {
     let a = from + MAX_FRAMES - SEARCH_FRAMES;
     let end = from + MAX_FRAMES;
-    a + find_middle(&e.levels[a..end], e.floor)
+    let w = Window {
+        levels: &e.levels[a..end],
+        floor: e.floor,
+    };
+    a + find_middle(w)
 }

@@ -13,6 +13,7 @@ use cut::MAX_FRAMES;
 use envelope::view::Envelope;
 
 pub mod cut;
+pub mod window;
 
 // The number of pieces.
 pub fn count_pieces(e: Envelope<'_>) -> usize
@@ -85,23 +86,13 @@ fn judge(e: Envelope<'_>, starts: &[usize], ends: &[usize]) -> Result<(), Refusa
     Ok(())
 }
 
-// The pieces in their places, and their number.
-fn accept(e: Envelope<'_>, starts: &mut [usize], ends: &mut [usize]) -> usize
-    requires { Ready (length e.levels.now) e.count (length starts.old) (length ends.old) }
-    ensures { let quiet_frames = quiet_in e.entry in
-        output (Ok result) starts.new ends.new
-        ≡ accepted (pieces quiet_frames e.entry.count) starts.old ends.old }
-{
-    let n = count_pieces(e);
-    write_pieces(e, starts, ends);
-    n
-}
-
 // The pieces of a recording of `count` samples, from its levels and their floor (pieces.rs, pieces).
 pub fn pieces(e: Envelope<'_>, starts: &mut [usize], ends: &mut [usize]) -> Result<usize, Refusal>
     ensures { output result starts.new ends.new
         ≡ pieces_call e.entry.levels.now e.entry.floor e.entry.count starts.old ends.old }
 {
     judge(e, starts, ends)?;
-    Ok(accept(e, starts, ends))
+    let n = count_pieces(e);
+    write_pieces(e, starts, ends);
+    Ok(n)
 }

@@ -20,7 +20,7 @@ use Rattle.loops.proofs.Whole.{left-even}
 use Rattle.loops.proofs.Kept.{left-letters}
 use Rattle.fit_file.specs.FitFile.{duration_of}
 use Rattle.run_stages.specs.Stages.{Settled, snapped, settled, run_on}
-use Rattle.run_stages.specs.Parts.{FewLetters, Settling, Running}
+use Rattle.run_stages.specs.Parts.{Ready, FewLetters, Settling, Running}
 use Rattle.run_stages.proofs.Places.{places-first, places-more}
 
 module _ (ws : Words) (even : OneLength (count ws) ws) {left : Left} {after : Words} (made : Collapsing left ws after) where
@@ -51,18 +51,14 @@ module _ (ws : Words) (even : OneLength (count ws) ws) {left : Left} {after : Wo
       (words-alike (places-first zero_f m n kept.starts kept-even.0) (places-first zero_f m n kept.ends kept-even.1.0) (places-first 0 m n kept.letters kept-even.1.1.0)
       (places-first 0 m n kept.units kept-even.1.1.1.0) (places-first 0 m n kept.keys kept-even.1.1.1.1))
 
-  -- ---- and those have what the other stages require; of spans and levels nothing changes
-  abbrev Stays : Type 0 → Type 0 → Type 0 → Type 0 → Words → ℕ → ℕ → ℕ → ℕ → Type 0
-  Stays E C M S v phrases a b d =
-      OneLength (count v) v × ((count v ≤ 4096) × (E × (C × (M × (S × ((count v ≤ phrases) × ((count v ≤ a) × ((count v ≤ b) × (count v ≤ d)))))))))
-
+  -- ---- and those have what the other stages require
   fewest : {n : ℕ} → count ws ≤ n → count kept ≤ n
   fewest h = omega (arith, never-more ws, h)
 
-  pub left-ready : {E C M S : Type 0} {phrases a b d : ℕ} → Stays E C M S ws phrases a b d → FewLetters ws.letters → Stays E C M S first_parts phrases a b d × FewLetters first_parts.letters
-  left-ready {E} {C} {M} {S} {phrases} {a} {b} {d} (same, (few, (ends, (counts, (many, (short, (numbers, (wa, (wb, wd))))))))) letters =
-      subst (λ (v : Words). Stays E C M S v phrases a b d × FewLetters v.letters) (sym parts_are)
-      ((left-even ws even, (fewest few, (ends, (counts, (many, (short, (fewest numbers, (fewest wa, (fewest wb, fewest wd))))))))), left-letters 1000 ws letters)
+  pub left-ready : {phrases a b d : ℕ} → Ready ws phrases a b d → FewLetters ws.letters → Ready first_parts phrases a b d × FewLetters first_parts.letters
+  left-ready {phrases} {a} {b} {d} (same, (few, (numbers, (wa, (wb, wd))))) letters =
+      subst (λ (v : Words). Ready v phrases a b d × FewLetters v.letters) (sym parts_are)
+      ((left-even ws even, (fewest few, (fewest numbers, (fewest wa, (fewest wb, fewest wd))))), left-letters 1000 ws letters)
 
   module _ {final : Settled} {n : ℕ} {s e : List Float} {l u k numbers : List ℕ} (settling : Settling final (length first_parts.keys) n (words s e l u k) numbers)
       (ls : length s ≡ length first_parts.starts) (le : length e ≡ length first_parts.ends) (ll : length l ≡ length first_parts.letters) (lu : length u ≡ length first_parts.units)

@@ -1,7 +1,7 @@
 -- The stages in a row: what each leaves is what the next takes, and the words that are left stand in the first places. Assumes nothing.
 use Rattle.base.specs.declared.Refusal.{Refusal}
 use Rattle.std.specs.Prelude.{Ok, Err, Result}
-use Prim.Native.Nat.{ℕ, ◌-◌, ◌≤◌, ◌^◌, min}
+use Prim.Native.Nat.{ℕ, ◌-◌, ◌≤◌, min}
 use mathlib.Core.Path.{◌≡◌, refl, sym, ap, subst, ◌∙◌}
 use mathlib.Core.Bool.{Bool}
 use mathlib.Core.List.{List, ◌++◌, append_assoc}
@@ -141,9 +141,10 @@ module _ (spans : Spans) (phrases : List ℕ) (ws : Words) (even : OneLength (co
       }
 
 -- ---- the first n words have what the fit by phrase requires
-pub fit-ready : {levels a b d span_starts span_ends : ℕ} (n m : ℕ) (s e : List Float) (l p : List ℕ) → n ≤ m → length s ≡ m → length e ≡ m → length l ≡ m → m ≤ length p → m ≤ 4096 → levels ≤ 2 ^ 40
-    → m ≤ a → m ≤ b → m ≤ d → span_ends ≡ span_starts → span_starts ≤ 4096
-    → (length (part 0 n e) ≡ length (part 0 n s)) × ((length (part 0 n l) ≡ length (part 0 n s)) × ((length (part 0 n p) ≡ length (part 0 n s)) × ((length (part 0 n s) ≤ 4096) × ((levels ≤ 2 ^ 40) × ((length (part 0 n s) ≤ a) × ((length (part 0 n s) ≤ b) × ((length (part 0 n s) ≤ d) × ((span_ends ≡ span_starts) × (span_starts ≤ 4096)))))))))
-fit-ready n m s e l p h ls le ll lp few lv wa wb wd se ss =
+pub fit-ready : {a b d : ℕ} (n m : ℕ) (s e : List Float) (l p : List ℕ) → n ≤ m → length s ≡ m → length e ≡ m → length l ≡ m → m ≤ length p → m ≤ 4096
+    → m ≤ a → m ≤ b → m ≤ d
+    → (length (part 0 n e) ≡ length (part 0 n s)) × ((length (part 0 n l) ≡ length (part 0 n s)) × ((length (part 0 n p) ≡ length (part 0 n s)) × ((length (part 0 n s) ≤ 4096)
+    × ((length (part 0 n s) ≤ a) × ((length (part 0 n s) ≤ b) × (length (part 0 n s) ≤ d))))))
+fit-ready n m s e l p h ls le ll lp few wa wb wd =
     rw (part-long 0 n s (omega arith), part-long 0 n e (omega arith), part-long 0 n l (omega arith), part-long 0 n p (omega arith))
-    (refl, (refl, (refl, (omega arith, (lv, (omega arith, (omega arith, (omega arith, (se, ss)))))))))
+    (refl, (refl, (refl, (omega arith, (omega arith, (omega arith, omega arith))))))

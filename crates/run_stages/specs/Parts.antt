@@ -1,6 +1,6 @@
 -- What only the contracts of the unchecked core cite; a reader of the public call may skip it. Assumes nothing.
-use Rattle.std.specs.Prelude.{ℕ, ◌≤◌, ◌^◌, ◌≡◌, List, length, get_or}
-use Rattle.base.specs.Words.{Words, Spans, count, words_in_places}
+use Rattle.std.specs.Prelude.{ℕ, ◌≤◌, ◌≡◌, List, length, get_or}
+use Rattle.base.specs.Words.{Words, count, words_in_places}
 use Rattle.base.specs.Parts.{OneLength}
 use Rattle.run_stages.specs.Stages.{Settled, Run}
 use Rattle.pieces.specs.Parts.{starts_over, ends_over}
@@ -8,19 +8,11 @@ use Rattle.run_stages.specs.declared.Outcome.{Outcome}
 
 -- ======== `on_words`
 
--- ---- Lists that belong together are as long as each other; words, spans and levels are few; and every word has its places.
-abbrev pub Ready : Words → Spans → ℕ → ℕ → ℕ → ℕ → ℕ → Type 0
-Ready ws spans phrases levels work_starts work_ends work_letters =
+-- ---- The words' lists are as long as each other, the words are few, and every word has its places.
+abbrev pub Ready : Words → ℕ → ℕ → ℕ → ℕ → Type 0
+Ready ws phrases work_starts work_ends work_letters =
     OneLength (count ws) ws
-    × ((count ws ≤ 4096)
-    × ((length spans.ends ≡ length spans.starts)
-    × ((length spans.counts ≡ length spans.starts)
-    × ((length spans.starts ≤ 4096)
-    × ((levels ≤ 2 ^ 40)
-    × ((count ws ≤ phrases)
-    × ((count ws ≤ work_starts)
-    × ((count ws ≤ work_ends)
-    × (count ws ≤ work_letters)))))))))
+    × ((count ws ≤ 4096) × ((count ws ≤ phrases) × ((count ws ≤ work_starts) × ((count ws ≤ work_ends) × (count ws ≤ work_letters)))))
 
 -- ---- Every number of letters is within its limit.
 abbrev pub FewLetters : List ℕ → Type 0

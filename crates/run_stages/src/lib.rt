@@ -3,17 +3,18 @@
 
 ghost use Rattle.std.specs.Prelude.{◌≡◌, length};
 ghost use Rattle.base.specs.Words.{words};
-ghost use Rattle.base.specs.Spans.{spans_of};
+ghost use Rattle.base.specs.SpanList.{spans_of};
 ghost use Rattle.pieces.specs.Pieces.{Ready as PiecesReady};
 ghost use Rattle.loops.specs.Loops.{collapse_loops};
 ghost use Rattle.run_stages.specs.Stages.{snapped, settled, run_on};
 ghost use Rattle.run_stages.specs.Parts.{Ready, FewLetters, Settling, Running};
 ghost use Rattle.envelope.specs.Frames.{loud_in, quiet_in};
 
-use base::spans::Spans;
+use base::span_list::SpanList;
 use envelope::view::Envelope;
 use loops::Left;
 
+pub mod lists;
 pub mod on_words;
 pub mod snap;
 
@@ -33,7 +34,7 @@ fn run_on_words(
     units: &mut [u32],
     keys: &mut [u32],
     phrases: &mut [u32],
-    spans: Spans<'_>,
+    spans: SpanList<'_>,
     e: Envelope<'_>,
     duration: f64,
     work_starts: &mut [f64],
@@ -41,9 +42,7 @@ fn run_on_words(
     work_letters: &mut [u32],
 ) -> Left
     requires { Ready (words starts.old ends.old letters.old units.old keys.old)
-        (spans_of spans) (length phrases.old)
-        (length e.levels.now) (length work_starts.old) (length work_ends.old)
-        (length work_letters.old)
+        (length phrases.old) (length work_starts.old) (length work_ends.old) (length work_letters.old)
         × FewLetters letters.old }
     ensures { let before = words starts.old ends.old letters.old units.old keys.old in
         let after = words starts.new ends.new letters.new units.new keys.new in
@@ -54,7 +53,7 @@ fn run_on_words(
         (length keys.old) result.count after phrases.new
         × (result.found ≡ (collapse_loops before).found) }
 {
-    let left = loops::collapse(starts, ends, letters, units, keys);
+    let left = lists::collapse(starts, ends, letters, units, keys);
     let n = left.count;
     let words = on_words::time_words(
         &mut starts[0..n],
@@ -84,7 +83,7 @@ pub fn after_levels(
     letters: &mut [u32],
     units: &mut [u32],
     keys: &mut [u32],
-    spans: Spans<'_>,
+    spans: SpanList<'_>,
     phrases: &mut [u32],
     piece_starts: &mut [usize],
     piece_ends: &mut [usize],
@@ -93,9 +92,7 @@ pub fn after_levels(
     work_letters: &mut [u32],
 ) -> Outcome
     requires { Ready (words starts.old ends.old letters.old units.old keys.old)
-        (spans_of spans) (length phrases.old)
-        (length e.levels.now) (length work_starts.old) (length work_ends.old)
-        (length work_letters.old)
+        (length phrases.old) (length work_starts.old) (length work_ends.old) (length work_letters.old)
         × (FewLetters letters.old
         × PiecesReady (length e.levels.now) e.count (length piece_starts.old) (length piece_ends.old)) }
     ensures { let before = words starts.old ends.old letters.old units.old keys.old in

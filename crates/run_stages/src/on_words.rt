@@ -1,12 +1,12 @@
 // The stages of a full run on the words that loops left (document 01, "Full run"); nothing is checked.
 ghost use Rattle.std.specs.Prelude.{length};
 ghost use Rattle.base.specs.Words.{words};
-ghost use Rattle.base.specs.Spans.{spans_of};
+ghost use Rattle.base.specs.SpanList.{spans_of};
 ghost use Rattle.run_stages.specs.Stages.{snapped, by_phrase, settled};
 ghost use Rattle.run_stages.specs.Parts.{Ready, FewLetters, Settling};
 ghost use Rattle.envelope.specs.Frames.{loud_in};
 
-use base::spans::Spans;
+use base::span_list::SpanList;
 use envelope::view::Envelope;
 
 // Placing, then the fit by phrase; gives back how many words are left.
@@ -17,7 +17,7 @@ fn place_and_fit(
     units: &mut [u32],
     keys: &mut [u32],
     phrases: &mut [u32],
-    spans: Spans<'_>,
+    spans: SpanList<'_>,
     e: Envelope<'_>,
     duration: f64,
     work_starts: &mut [f64],
@@ -25,23 +25,20 @@ fn place_and_fit(
     work_letters: &mut [u32],
 ) -> usize
     requires { Ready (words starts.old ends.old letters.old units.old keys.old)
-        (spans_of spans) (length phrases.old)
-        (length e.levels.now) (length work_starts.old) (length work_ends.old)
-        (length work_letters.old) }
+        (length phrases.old) (length work_starts.old) (length work_ends.old) (length work_letters.old) }
     ensures { let before = words starts.old ends.old letters.old units.old keys.old in
         let after = words starts.new ends.new letters.new units.new keys.new in
         let all_spans = spans_of spans.entry in
         let loud_frames = loud_in e.entry in
         Settling (by_phrase loud_frames duration all_spans phrases.old before) (length keys.old) result after phrases.new }
 {
-    let n = phrase_align::place_words(starts, ends, letters, units, keys, phrases, spans);
-    fit_file::each_phrase::fit_phrases(
+    let n = super::lists::place_words(starts, ends, letters, units, keys, phrases, spans);
+    super::lists::fit_phrases(
         &mut starts[0..n],
         &mut ends[0..n],
         &letters[0..n],
         &phrases[0..n],
-        spans.starts,
-        spans.ends,
+        spans,
         e,
         duration,
         work_starts,
@@ -59,7 +56,7 @@ pub fn time_words(
     units: &mut [u32],
     keys: &mut [u32],
     phrases: &mut [u32],
-    spans: Spans<'_>,
+    spans: SpanList<'_>,
     e: Envelope<'_>,
     duration: f64,
     work_starts: &mut [f64],
@@ -67,9 +64,7 @@ pub fn time_words(
     work_letters: &mut [u32],
 ) -> usize
     requires { Ready (words starts.old ends.old letters.old units.old keys.old)
-        (spans_of spans) (length phrases.old)
-        (length e.levels.now) (length work_starts.old) (length work_ends.old)
-        (length work_letters.old)
+        (length phrases.old) (length work_starts.old) (length work_ends.old) (length work_letters.old)
         × FewLetters letters.old }
     ensures { let before = words starts.old ends.old letters.old units.old keys.old in
         let after = words starts.new ends.new letters.new units.new keys.new in
@@ -81,7 +76,7 @@ pub fn time_words(
 {
     super::snap::snap(starts, ends, letters, units, e, duration);
     if spans.starts.len() == 0 {
-        fit_to_sound::fit_words(starts, ends, letters, e, duration);
+        super::lists::fit_words(starts, ends, letters, e, duration);
         return keys.len();
     }
     place_and_fit(

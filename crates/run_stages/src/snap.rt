@@ -1,5 +1,5 @@
 // The three stages on sound that a full run takes before placing (document 01, "Full run").
-ghost use Rattle.std.specs.Prelude.{◌≡◌, ℕ, ◌≤◌, ◌^◌, length, get_or};
+ghost use Rattle.std.specs.Prelude.{◌≡◌, ℕ, ◌≤◌, length, get_or};
 ghost use Rattle.base.specs.Words.{edges};
 ghost use Rattle.tails.specs.Tails.{hand_back_tails};
 ghost use Rattle.onsets.specs.Onsets.{snap_onsets};
@@ -19,15 +19,14 @@ pub fn snap(
 )
     requires { (length ends.old ≡ length starts.old)
         × ((length letters.now ≡ length starts.old)
-        × ((length units.now ≡ length starts.old)
-        × ((length e.levels.now ≤ 2 ^ 40) × ((i : ℕ) → get_or letters.now i 0 ≤ 1000)))) }
+        × ((length units.now ≡ length starts.old) × ((i : ℕ) → get_or letters.now i 0 ≤ 1000))) }
     ensures { let before = edges starts.old ends.old in
         let after = edges starts.new ends.new in
         let loud_frames = loud_in e.entry in
         after
         ≡ snap_ends loud_frames duration units.now (snap_onsets loud_frames (hand_back_tails loud_frames letters.now before)) }
 {
-    tails::move_tails(starts, ends, letters, e);
+    super::lists::move_tails(starts, ends, letters, e);
     onsets::move_onsets(starts, ends, e);
-    ends::move_ends(starts, ends, units, e, duration);
+    super::lists::move_ends(starts, ends, units, e, duration);
 }

@@ -1,13 +1,14 @@
 -- The code's searches, from frame 0 to the last, give what the loops of hand_back_tails give: past the last frame nothing is loud, and a frame
 -- is found where the loop stops. Assumes nothing.
-use Prim.Native.Nat.{ℕ, zero, suc, ◌+◌, ◌-◌, ◌<◌, ◌≤◌, ◌^◌, min, max}
+use Rattle.std.specs.Prelude.{Option, Some, None, MatchOption, unwrap_or}
+use Prim.Native.Nat.{ℕ, zero, suc, ◌+◌, ◌-◌, ◌<◌, ◌≤◌, min, max}
 use mathlib.Core.Bool.{Bool, true, false, cond, not, ◌&&◌, beq}
 use mathlib.Core.List.{List}
 use mathlib.Core.Path.{◌≡◌, refl, ap, ◌∙◌}
 use native.Mathlib.Omega.{arith}
 use native.Mathlib.Numerals.{add-one}
 use borrow.Author.Tests.{ne_eqb, ltb-true, ltb-false, le-ltb}
-use lib.Dec.{ltb, eqb}
+use lib.Dec.{ltb}
 use lib.IntN.{ℤ, pos, negsuc, ◌-ℤ◌, sub_ℕ}
 use lib.Signed.{lt_z}
 use lib.ListN.{length}
@@ -15,7 +16,7 @@ use Rattle.base.specs.Whole.{to_nat}
 use Rattle.base.specs.Loop.{on, run}
 use Rattle.base.proofs.Loops.{advance, range-end, run-stop, run-done, lt_z-nat}
 use Rattle.envelope.specs.Envelope.{loud}
-use Rattle.envelope.specs.Parts.{Met}
+use Rattle.envelope.specs.Parts.{Throughout, IsFirst}
 use Rattle.envelope.proofs.Scan.{loud-past, beq-is, beq-not}
 use Rattle.tails.specs.Tails.{loud_turn, past_loud, Quiet, quiet_turn, past_quiet, own_sound}
 use Rattle.tails.specs.Parts.{across, below, three}
@@ -25,13 +26,30 @@ and3 true true c = refl
 and3 true false c = refl
 and3 false b c = refl
 
+-- ---- A search from lo to before hi for a frame that is loud (or is not) stops at r: at the first one, or where the search ends.
+pub record Stops (row : List Bool) (want : Bool) (lo hi r : ℕ) : Type 0 where
+  pub from : lo ≤ r
+  pub to : r ≤ max lo hi
+  pub none : Throughout row (not want) lo r
+  pub found : r < hi → loud row (pos r) ≡ want
+
+-- the code's search, which answers with the first one, if there is one
+pub stops-at : (row : List Bool) (want : Bool) (lo hi : ℕ) {r end : ℕ} (o : Option ℕ) → MatchOption o (Throughout row (not want) lo hi) (IsFirst row want lo hi)
+    → end ≡ max hi lo → r ≡ unwrap_or o end → Stops row want lo hi r
+stops-at row want lo hi None quiet isend isr =
+    record { from = omega arith; to = omega arith; none = λ j p q. quiet j p (omega arith); found = λ h. absurd (omega arith) }
+stops-at row want lo hi (Some k) m isend isr =
+    let a = m.from in
+    let b = m.to in
+    rw isr (record { from = a; to = omega arith; none = m.before; found = λ h. m.found })
+
 -- ---- The bound b, cut at zero and at the last frame, is hi.
 module _ (row : List Bool) (b : ℤ) (hi : ℕ) (cut : hi ≡ min (length row) (to_nat b)) where
   -- a frame from hi on is not loud, where it is before the bound
   quiet-above : (j : ℕ) → hi ≤ j → j < to_nat b → loud row (pos j) ≡ false
   quiet-above j p q = loud-past row j (omega arith)
 
-  pub past_loud-is : (f t : ℕ) → Met row false f hi t → past_loud row (pos f) b ≡ pos t
+  pub past_loud-is : (f t : ℕ) → Stops row false f hi t → past_loud row (pos f) b ≡ pos t
   unfolding past_loud
   past_loud-is f t m =
       range-end (loud_turn row) f b (pos f)
@@ -60,21 +78,22 @@ module _ (row : List Bool) (b : ℤ) (hi : ℕ) (cut : hi ≡ min (length row) (
       ∙ advance (quiet_turn row) (at t) (to_nat b) t e l h
       (λ (j : ℕ) (p : t ≤ j) (q : j < e). let z : (j - t) + 1 ≡ (j + 1) - t = omega arith in rw (a j p q, z, add-one))
 
-  pub past_quiet-is : (t k : ℕ) → Met row true t hi k → k < hi → past_quiet row (pos t) b ≡ record { k = pos k; quiet = k - t }
+  pub past_quiet-is : (t k : ℕ) → IsFirst row true t hi k → past_quiet row (pos t) b ≡ record { k = pos k; quiet = k - t }
   unfolding at
-  past_quiet-is t k m h =
-      past_quiet-to t k m.from (omega (arith, m.to)) m.none
-      ∙ run-stop (quiet_turn row) (to_nat b) k (omega arith) (rw (m.found h))
+  past_quiet-is t k m =
+      let h = m.to in
+      past_quiet-to t k m.from (omega arith) m.before
+      ∙ run-stop (quiet_turn row) (to_nat b) k (omega arith) (rw m.found)
 
-  pub past_quiet-none : (t k : ℕ) → Met row true t hi k → hi ≤ k → (past_quiet row (pos t) b).k ≡ pos (max t (to_nat b))
+  pub past_quiet-none : (t : ℕ) → Throughout row false t hi → (past_quiet row (pos t) b).k ≡ pos (max t (to_nat b))
   unfolding at
-  past_quiet-none t k m h =
+  past_quiet-none t quiet =
       ap (λ (q : Quiet). q.k)
-      (past_quiet-to t (max t (to_nat b)) (omega arith) (omega arith) (λ (j : ℕ) (p : t ≤ j) (q : j < max t (to_nat b)). all j p (omega arith) (ltb j k) refl)
+      (past_quiet-to t (max t (to_nat b)) (omega arith) (omega arith) (λ (j : ℕ) (p : t ≤ j) (q : j < max t (to_nat b)). all j p (omega arith) (ltb j hi) refl)
       ∙ run-done (quiet_turn row) (to_nat b) (max t (to_nat b)) (at t (max t (to_nat b))) (omega arith)) where
-        all : (j : ℕ) → t ≤ j → j < to_nat b → (s : Bool) → ltb j k ≡ s → loud row (pos j) ≡ false
-        all j p q true e = m.none j p (ltb-true j k e)
-        all j p q false e = quiet-above j (omega (arith, ltb-false j k e)) q
+        all : (j : ℕ) → t ≤ j → j < to_nat b → (s : Bool) → ltb j hi ≡ s → loud row (pos j) ≡ false
+        all j p q true e = quiet j p (ltb-true j hi e)
+        all j p q false e = quiet-above j (ltb-false j hi e) q
 
   below-is : (j : ℕ) → (lt_z (pos j) b && loud row (pos j)) ≡ below row hi j
   unfolding below
@@ -92,44 +111,30 @@ module _ (row : List Bool) (b : ℤ) (hi : ℕ) (cut : hi ≡ min (length row) (
   pub own_sound-none : (n : ℕ) → to_nat b ≤ n → own_sound row (pos n) b ≡ false
   own_sound-none n h = rw (lt_z-nat n b, le-ltb n (to_nat b) h)
 
--- ---- The frame z of a start, cut at zero and far above the last frame, is f.
-pub across-is : (row : List Bool) → length row ≤ 2 ^ 40 → (z : ℤ) (f : ℕ) → f ≡ min (to_nat z) (2 ^ 40) → across row f ≡ (loud row (z -ℤ pos 1) && loud row z)
+-- ---- The frame z of a start, cut at zero, is f.
+pub across-is : (row : List Bool) (z : ℤ) (f : ℕ) → f ≡ to_nat z → across row f ≡ (loud row (z -ℤ pos 1) && loud row z)
 unfolding across
-across-is row short (negsuc j) f e = let o : f ≡ 0 = omega arith in rw o
-across-is row short (pos zero) f e = let o : f ≡ 0 = omega arith in rw o
-across-is row short (pos (suc n)) f e = go (ltb n (2 ^ 40)) refl where
-  one : sub_ℕ (suc n) 1 ≡ pos n
-  one = rw (le-ltb (suc n) 1 (omega arith)) (ap pos (omega arith))
+across-is row (negsuc j) f e = rw e
+across-is row (pos zero) f e = rw e
+across-is row (pos (suc n)) f e =
+    let o : f ≡ suc n = e in
+    let m : suc n - 1 ≡ n = omega arith in
+    rw (one, o, m, ne_eqb (suc n) 0 (omega arith)) (both (loud row (pos n)) (loud row (pos (suc n))))
+  where
+    one : sub_ℕ (suc n) 1 ≡ pos n
+    one = rw (le-ltb (suc n) 1 (omega arith)) (ap pos (omega arith))
 
-  both : (a c : Bool) → cond a c false ≡ (a && c)
-  both true c = refl
-  both false c = refl
-
-  none : (a c : Bool) → cond a false false ≡ (c && false)
-  none true true = refl
-  none true false = refl
-  none false true = refl
-  none false false = refl
-
-  go : (t : Bool) → ltb n (2 ^ 40) ≡ t
-      → cond (eqb f 0) false (cond (loud row (pos (f - 1))) (loud row (pos f)) false) ≡ (loud row (sub_ℕ (suc n) 1) && loud row (pos (suc n)))
-  go true t =
-      let h = ltb-true n (2 ^ 40) t in
-      let o : f ≡ suc n = omega arith in
-      let m : suc n - 1 ≡ n = omega arith in
-      rw (one, o, m, ne_eqb (suc n) 0 (omega arith)) (both (loud row (pos n)) (loud row (pos (suc n))))
-  go false t =
-      let h = ltb-false n (2 ^ 40) t in
-      rw (one, ne_eqb f 0 (omega arith), loud-past row f (omega arith), loud-past row (suc n) (omega arith))
-      (none (loud row (pos (f - 1))) (loud row (pos n)))
+    both : (a c : Bool) → cond a c false ≡ (a && c)
+    both true c = refl
+    both false c = refl
 
 -- ---- A search that was cut short at `far` is the whole search, where it found its frame; and the whole one goes on from where it was cut.
-module _ (row : List Bool) (want : Bool) (f hi far t : ℕ) (m : Met row want f (min hi far) t) where
-  pub met-near : t < far → Met row want f hi t
-  met-near h = record { from = m.from; to = let l = m.to in omega arith; none = m.none; found = λ n. m.found (omega arith) }
+module _ (row : List Bool) (want : Bool) (f hi far t : ℕ) (m : Stops row want f (min hi far) t) where
+  pub stops-near : t < far → Stops row want f hi t
+  stops-near h = record { from = m.from; to = let l = m.to in omega arith; none = m.none; found = λ n. m.found (omega arith) }
 
-  pub met-on : {r : ℕ} → Met row want t hi r → Met row want f hi r
-  met-on {r} n = record { from = let a = m.from in let b = n.from in omega arith; to = let a = m.to in let b = n.to in omega arith; none = none; found = n.found } where
+  pub stops-on : {r : ℕ} → Stops row want t hi r → Stops row want f hi r
+  stops-on {r} n = record { from = let a = m.from in let b = n.from in omega arith; to = let a = m.to in let b = n.to in omega arith; none = none; found = n.found } where
     none : (j : ℕ) → f ≤ j → j < r → loud row (pos j) ≡ not want
     none j p q = go (ltb j t) refl where
       go : (s : Bool) → ltb j t ≡ s → loud row (pos j) ≡ not want
@@ -137,10 +142,10 @@ module _ (row : List Bool) (want : Bool) (f hi far t : ℕ) (m : Met row want f 
       go false e = n.none j (ltb-false j t e) q
 
 -- ---- a search from lo over n frames finds a frame, or its end
-pub met_some : (row : List Bool) (want : Bool) (n lo : ℕ) → (r : ℕ) × Met row want lo (lo + n) r
+pub met_some : (row : List Bool) (want : Bool) (n lo : ℕ) → (r : ℕ) × Stops row want lo (lo + n) r
 met_some row want zero lo = (lo, record { from = omega arith; to = omega arith; none = λ j p q. absurd (omega arith); found = λ h. absurd (omega arith) })
 met_some row want (suc n) lo = go (beq (loud row (pos lo)) want) refl (met_some row want n (lo + 1)) where
-  go : (s : Bool) → beq (loud row (pos lo)) want ≡ s → (r : ℕ) × Met row want (lo + 1) (lo + 1 + n) r → (r : ℕ) × Met row want lo (lo + suc n) r
+  go : (s : Bool) → beq (loud row (pos lo)) want ≡ s → (r : ℕ) × Stops row want (lo + 1) (lo + 1 + n) r → (r : ℕ) × Stops row want lo (lo + suc n) r
   go true e later = (lo, record { from = omega arith; to = omega arith; none = λ j p q. absurd (omega arith); found = λ h. beq-is _ _ e })
   go false e (r, m) = (r, record { from = let a = m.from in omega arith; to = let a = m.to in omega arith; none = none; found = λ h. m.found (omega arith) }) where
     none : (j : ℕ) → lo ≤ j → j < r → loud row (pos j) ≡ not want

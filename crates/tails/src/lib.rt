@@ -1,42 +1,35 @@
 // Tails of sound handed back to the word before (onsets.rs, hand_back_tails).
 #![tactic(auto)]
 
-ghost use Rattle.std.specs.Prelude.{◌≡◌, ℕ, ◌<◌, ◌≤◌, ◌^◌, length, get_or};
-ghost use Rattle.base.specs.Words.{words, edges};
+ghost use Rattle.std.specs.Prelude.{◌≡◌, ℕ, ◌≤◌, get_or};
+ghost use Rattle.base.specs.Words.{words};
+ghost use Rattle.base.specs.TimedWords.{edges_of, SameLists};
 ghost use Rattle.word_calls.specs.Calls.{output};
 ghost use Rattle.tails.specs.Tails.{hand_back_tails, tails_call};
 ghost use Rattle.envelope.specs.Frames.{loud_in};
 
+use base::Refusal;
+use base::timed_words::TimedWords;
 use base::word_lists::WordLists;
-use base::{Refusal, Times};
 use envelope::view::Envelope;
 use one_word::Neighbours;
 
 pub mod one_word;
 
 // Hands each tail of sound back to the word before, where a word starts on it (onsets.rs, hand_back_tails); nothing is checked.
-pub fn move_tails(starts: &mut [f64], ends: &mut [f64], letters: &[u32], e: Envelope<'_>)
-    requires { (length ends.old ≡ length starts.old)
-        × ((length letters.now ≡ length starts.old)
-        × ((length e.levels.now ≤ 2 ^ 40) × ((i : ℕ) → get_or letters.now i 0 ≤ 1000))) }
-    ensures { let before = edges starts.old ends.old in
-        let after = edges starts.new ends.new in
-        after ≡ hand_back_tails (loud_in e.entry) letters.now before }
+pub fn move_tails(w: &mut TimedWords<'_>, e: Envelope<'_>)
+    requires { (i : ℕ) → get_or w.old.weights.now i 0 ≤ 1000 }
+    ensures same { SameLists w.old w.new }
+    ensures handed { edges_of w.new ≡ hand_back_tails (loud_in e.entry) w.old.weights.now (edges_of w.old) }
 {
-    for i in 1..starts.len() {
-        let prev = Times {
-            start: starts[i - 1],
-            end: ends[i - 1],
+    for i in 1..w.starts.len() {
+        let pair = Neighbours {
+            prev: w.at(i - 1),
+            w: w.at(i),
         };
-        let w = Times {
-            start: starts[i],
-            end: ends[i],
-        };
-        let p = one_word::hand_back(e, Neighbours { prev, w }, letters[i]);
-        starts[i - 1] = p.prev.start;
-        ends[i - 1] = p.prev.end;
-        starts[i] = p.w.start;
-        ends[i] = p.w.end;
+        let p = one_word::hand_back(e, pair, w.weights[i]);
+        w.put(i - 1, p.prev);
+        w.put(i, p.w);
     }
 }
 
@@ -64,6 +57,11 @@ pub fn hand_back_tails(
         e.levels.len(),
         e.count,
     )?;
-    move_tails(starts, ends, letters, e);
+    let mut w = TimedWords {
+        starts,
+        ends,
+        weights: letters,
+    };
+    move_tails(&mut w, e);
     Ok(())
 }

@@ -1,5 +1,5 @@
 // The tail of sound that one word hands back to the word before, if there is one (onsets.rs, hand_back_tails).
-ghost use Rattle.std.specs.Prelude.{◌≡◌, ◌<◌, ◌≤◌, ◌^◌, pos, length};
+ghost use Rattle.std.specs.Prelude.{◌≡◌, ◌<◌, ◌≤◌, ◌^◌, pos};
 ghost use Rattle.std.specs.Float.Ieee.{le};
 ghost use Rattle.base.specs.Floats.{◌⊗◌, num};
 ghost use Rattle.frames.specs.Frames.{frame_seconds};
@@ -65,23 +65,26 @@ fn own_sound(e: Envelope<'_>, hi: usize, k: usize) -> bool
 
 // A word hands its tail of sound back to the word before it, if it starts on one.
 pub fn hand_back(e: Envelope<'_>, p: Neighbours, letters: u32) -> Neighbours
-    requires { (length e.levels.now ≤ 2 ^ 40) × (letters ≤ 1000) }
+    requires { letters ≤ 1000 }
     ensures { result ≡ hand_back (loud_in e.entry) p letters }
 {
-    let f = frames::frame_index(p.w.start);
+    let f = frames::index_at(p.w.start);
     if !lands(e, p.prev.end, p.w.start, f) {
         return p;
     }
-    let hi = e.levels.len().min(frames::frame_index(p.w.end));
+    let hi = e.levels.len().min(frames::index_at(p.w.end));
     let far = hi.min(f + MAX_TAIL);
-    let t = e.first_frame(false, f, far);
+    // The frame past the tail, or where the search for it ends.
+    let t = e.first_frame(false, f, far).unwrap_or(far.max(f));
     if MAX_TAIL <= t - f {
         return p;
     }
     if is_long(t - f, letters) {
         return p;
     }
-    let k = e.first_frame(true, t, hi);
+    let Some(k) = e.first_frame(true, t, hi) else {
+        return p;
+    };
     if k - t < EDGE_QUIET {
         return p;
     }

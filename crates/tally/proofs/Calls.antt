@@ -1,10 +1,10 @@
--- The call `tally_at` in plain words, and for the code what its tests found. By reading what the tests find. Assumes nothing.
+-- The call `tally` in plain words, and for the code what its tests found. By reading what the tests find. Assumes nothing.
 use Rattle.std.specs.Prelude.{Ok, Err}
 use Prim.Native.Nat.{ℕ, ◌≤◌, ◌^◌}
 use mathlib.Core.Path.{◌≡◌, refl, sym, ◌∙◌}
 use mathlib.Core.Logic.{◌↔◌}
 use mathlib.Core.List.{List, [], ◌∷◌, ◌++◌}
-use lib.ListN.{length, take, drop}
+use lib.ListN.{length, drop}
 use lib.Ieee.{Float}
 use Rattle.base.specs.Words.{Words, Spans, edges}
 use Rattle.base.specs.declared.Refusal.{Refusal}
@@ -16,8 +16,6 @@ use Rattle.word_calls.specs.Calls.{phrases_applies, phrases_rule}
 use Rattle.word_calls.proofs.Moved.{within-phrases, listed-phrases, phrases-fine, few-levels}
 use Rattle.envelope.specs.Envelope.{loud_row}
 use Rattle.tally.specs.Tally.{tallies, output, by_rule, tally_call}
-use Rattle.tally.specs.Parts.{zeros}
-use Rattle.tally.proofs.Sums.{zeros-first, zeros-behind, zeros-room}
 
 module _ (ws : Words) (phrases : List ℕ) (spans : Spans) (levels : List Float) (floor : Float) (samples : ℕ) (places : List ℕ) where
   -- how many spans there are, and their tallies
@@ -76,12 +74,8 @@ module _ (ws : Words) (phrases : ℕ) (spans : Spans) (levels samples places : �
   pub enough : length spans.starts ≤ places
   enough = within.1.1.1
 
-  pub ready : (before : List ℕ) {now : List ℕ} → now ≡ zeros (length spans.starts) ++ drop (length spans.starts) before
-      → (levels ≤ 2 ^ 40) × ((length ws.starts ≤ 4096) × ((length ws.ends ≡ length ws.starts) × ((phrases ≡ length ws.starts)
-      × ((length spans.starts ≤ length now) × (take (length spans.starts) now ≡ zeros (length spans.starts))))))
-  ready before e =
-      let w = within.0.0 in
-      (few-levels within.0.1, (w.few, (w.ends-as-long, (within.1.0, (zeros-room (length spans.starts) before e, zeros-first (length spans.starts) before e)))))
+  pub ready : (levels ≤ 2 ^ 40) × ((length ws.starts ≤ 4096) × ((length ws.ends ≡ length ws.starts) × (phrases ≡ length ws.starts)))
+  ready = let w = within.0.0 in (few-levels within.0.1, (w.few, (w.ends-as-long, within.1.0)))
 
 -- ---- and what it answers and leaves
 module _ (ws : Words) (phrases : List ℕ) (spans : Spans) (levels : List Float) (floor : Float) (samples : ℕ) (places : List ℕ) {found : Rule}
@@ -90,8 +84,8 @@ module _ (ws : Words) (phrases : List ℕ) (spans : Spans) (levels : List Float)
   unfolding tally_call
   refused-made r e = rw (← is, e)
 
-  pub accepted-made : {now later : List ℕ} → found ≡ Ok tt → now ≡ zeros (length spans.starts) ++ drop (length spans.starts) places
-      → later ≡ tallies (loud_row floor levels) phrases (edges ws.starts ws.ends) (length spans.starts) ++ drop (length spans.starts) now
-      → output (Ok tt) later ≡ tally_call ws phrases spans levels floor samples places
+  pub accepted-made : {mid : List ℕ} → found ≡ Ok tt
+      → mid ≡ tallies (loud_row floor levels) phrases (edges ws.starts ws.ends) (length spans.starts)
+      → output (Ok tt) (mid ++ drop (length spans.starts) places) ≡ tally_call ws phrases spans levels floor samples places
   unfolding tally_call
-  accepted-made fine e l = rw (← is, fine, l, zeros-behind (length spans.starts) places e)
+  accepted-made fine e = rw (← is, fine, e)

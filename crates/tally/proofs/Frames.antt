@@ -1,6 +1,6 @@
--- The loud frames under a word are those from one index to before another; an index may be cut at 2 ^ 40. By going through the row: a frame before
+-- The loud frames under a word are those from one index to before another. By going through the row: a frame before
 -- the word or past it changes nothing. A word that ends no later than it starts has none. Assumes nothing.
-use Prim.Native.Nat.{ℕ, zero, suc, ◌+◌, ◌-◌, ◌<◌, ◌≤◌, ◌^◌, min}
+use Prim.Native.Nat.{ℕ, zero, suc, ◌+◌, ◌-◌, ◌<◌, ◌≤◌, min}
 use mathlib.Core.Bool.{Bool, true, false, cond, ◌&&◌}
 use mathlib.Core.List.{List}
 use mathlib.Core.Path.{◌≡◌, refl, sym, ap, ◌∙◌}
@@ -70,7 +70,7 @@ module _ (row : List Bool) (w : Times) (k n : ℕ) where
     go false = nothing (get_or row k false)
 
 -- ---- the first m frames of the row
-module _ (row : List Bool) (w : Times) (short : length row ≤ 2 ^ 40) {lo hi : ℕ} (is-lo : lo ≡ min (start_frame w) (2 ^ 40)) (is-hi : hi ≡ min (length row) (min (end_frame w) (2 ^ 40))) where
+module _ (row : List Bool) (w : Times) {lo hi : ℕ} (is-lo : lo ≡ start_frame w) (is-hi : hi ≡ min (length row) (end_frame w)) where
   under_first : (m : ℕ) → m ≤ length row → each (cover_turn row w) m 0 0 ≡ loud_between row lo (min m hi)
   unfolding each
   under_first zero h = sym (between_none row lo (min 0 hi) (omega arith))
@@ -98,13 +98,13 @@ module _ (row : List Bool) (w : Times) (short : length row ≤ 2 ^ 40) {lo hi : 
 
 -- ---- by what the code's parts give
 module _ (floor : Float) (levels : List Float) (start end : Float) where
-  pub under-made : {lo hi n : ℕ} → length levels ≤ 2 ^ 40 → lo ≡ min (to_nat (frame_at start)) (2 ^ 40) → hi ≡ min (length levels) (min (to_nat (frame_at end)) (2 ^ 40))
+  pub under-made : {lo hi n : ℕ} → lo ≡ to_nat (frame_at start) → hi ≡ min (length levels) (to_nat (frame_at end))
       → n ≡ loud_between (loud_row floor levels) lo hi → n ≡ loud_under (loud_row floor levels) (times start end)
-  under-made {lo} {hi} short is-lo is-hi e =
+  under-made {lo} {hi} is-lo is-hi e =
       let r = length-row floor levels in
       let a = from_zero-nat start in
       let b = from_zero-nat end in
-      e ∙ sym (under-between (loud_row floor levels) (times start end) (rw r short) (rw a is-lo) (rw (r, b) is-hi))
+      e ∙ sym (under-between (loud_row floor levels) (times start end) (rw a is-lo) (rw (r, b) is-hi))
 
 -- ---- an empty or reversed word counts nothing
 pub under-empty : (row : List Bool) (w : Times) → end_frame w ≤ start_frame w → loud_under row w ≡ 0

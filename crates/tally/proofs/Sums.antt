@@ -2,23 +2,22 @@
 -- place of its own number, and for every other span its turn changes nothing. Assumes nothing.
 use Prim.Native.Nat.{ℕ, zero, suc, ◌+◌, ◌*◌, ◌<◌, ◌≤◌, ◌^◌}
 use mathlib.Core.Bool.{Bool, true, false, cond}
-use mathlib.Core.List.{List, ◌∷◌, ◌++◌}
+use mathlib.Core.List.{List, ◌∷◌, ◌++◌, append-nil}
 use mathlib.Core.Path.{◌≡◌, refl, sym, ap, ◌∙◌, subst}
 use native.Mathlib.Omega.{arith}
 use native.Mathlib.Nat.{mul-le-mul, le_trans, suc-mul}
 use native.Mathlib.Numerals.{add-one}
 use borrow.Author.Tests.{ltb-true, ltb-false, eqb-true, eqb-false, eq-eqb, ne_eqb}
 use lib.Dec.{ltb, eqb}
-use lib.ListN.{length, get_or, set, replicate, take, drop, length-set, length-append, take-append-drop}
-use lib.Seq.{get_or-set_other, take-append_seam, drop-append_seam}
+use lib.ListN.{length, get_or, set, replicate, drop, length-set, drop_of_length-le}
+use lib.Seq.{get_or-set_other}
 use lib.Ieee.{nan}
-use Rattle.std.proofs.lemmas.List.{length-take-le}
 use Rattle.base.specs.Loop.{each, table}
 use Rattle.base.specs.Words.{Edges, times_at, set_times}
 use Rattle.base.specs.declared.Times.{Times}
-use Rattle.base.proofs.Loops.{each_last, each_seen, length-table}
+use Rattle.base.proofs.Loops.{each_last, each_seen}
 use Rattle.tally.specs.Tally.{loud_under, span_turn, span_tally, tallies}
-use Rattle.tally.specs.Parts.{added_at, zeros, sofar, filled}
+use Rattle.tally.specs.Parts.{added_at, sofar, filled}
 use Rattle.tally.proofs.Frames.{under-most}
 
 -- ---- two loops with equal turns
@@ -47,24 +46,13 @@ replaced f g rest (suc n) i (suc p) h e =
     let z : i + suc p ≡ suc i + p = omega arith in
     rw (z, e i (λ (x : i ≡ i + suc p). absurd (omega arith)), replaced f g rest n (suc i) p (omega arith) (λ (q : ℕ) (a : q ≡ suc i + p → ⊥). e q (λ (x : q ≡ i + suc p). a (omega arith))))
 
--- ---- zeros in the first places, and what stood behind them
-module _ (n : ℕ) (places : List ℕ) {now : List ℕ} (is : now ≡ zeros n ++ drop n places) where
-  long : length (zeros n) ≡ n
-  unfolding zeros
-  long = length-table (λ (_ : ℕ). 0) n 0
-
-  pub zeros-first : take n now ≡ zeros n
-  zeros-first = ap (take n) is ∙ ap (λ (k : ℕ). take k (zeros n ++ drop n places)) (sym long) ∙ take-append_seam (zeros n) (drop n places)
-
-  pub zeros-behind : drop n now ≡ drop n places
-  zeros-behind = ap (drop n) is ∙ ap (λ (k : ℕ). drop k (zeros n ++ drop n places)) (sym long) ∙ drop-append_seam (zeros n) (drop n places)
-
-  pub zeros-room : n ≤ length now
-  zeros-room = rw (is, length-append (zeros n) (drop n places), long) (omega arith)
-
 -- ---- place k made zero
 unfoldable pub zero_at : ℕ → List ℕ → List ℕ
 zero_at k places = set places k 0
+
+-- ---- so many zeros
+unfoldable pub zeros : ℕ → List ℕ
+zeros n = table (λ (_ : ℕ). 0) n 0
 
 -- ---- so many equal values are so many zeros
 all_zero : (n i : ℕ) → replicate {A = ℕ} n 0 ≡ table (λ (_ : ℕ). 0) n i
@@ -72,9 +60,13 @@ unfolding table
 all_zero zero i = refl
 all_zero (suc n) i = ap (λ (l : List ℕ). 0 ∷ l) (all_zero n (suc i))
 
-pub zeros_are : (n : ℕ) (places : List ℕ) {l : List ℕ} → n ≤ length places → l ≡ replicate (length (take n places)) 0 → l ≡ zeros n
+pub zeros_are : (n : ℕ) {l : List ℕ} → l ≡ replicate n 0 → l ≡ zeros n
 unfolding zeros
-zeros_are n places h e = e ∙ rw (length-take-le n places h) (all_zero n 0)
+zeros_are n e = e ∙ all_zero n 0
+
+-- ---- no place lies behind the last
+no-rest : (spans : ℕ) (places : List ℕ) (l : List ℕ) → length places ≡ spans → l ++ drop spans places ≡ l
+no-rest spans places l h = rw (drop_of_length-le places {i = spans} (omega arith), append-nil l)
 
 module _ (row : List Bool) (phrases : List ℕ) (es : Edges) where
   -- and its next turn, for the word's own span and for another
@@ -138,8 +130,8 @@ module _ (row : List Bool) (phrases : List ℕ) (es : Edges) where
 
 -- ---- the code's pass: `now` is what the places hold after i words
 module _ (row : List Bool) (phrases : List ℕ) (es : Edges) (spans : ℕ) (places : List ℕ) where
-  pub pass-starts : take spans places ≡ zeros spans → places ≡ filled row phrases es spans 0 places
-  pass-starts h = sym (take-append-drop spans places) ∙ ap (λ (l : List ℕ). l ++ drop spans places) h ∙ filled_none row phrases es spans places
+  pub pass-begins : length places ≡ spans → places ≡ zeros spans → places ≡ filled row phrases es spans 0 places
+  pass-begins n h = h ∙ sym (no-rest spans places (zeros spans) n) ∙ filled_none row phrases es spans places
 
   module _ (i : ℕ) {now : List ℕ} (is : now ≡ filled row phrases es spans i places) where
     pub pass-room : (p : ℕ) → i ≤ 4096 → length row ≤ 2 ^ 40 → p < spans → get_or now p 0 ≤ 2 ^ 52
@@ -150,6 +142,9 @@ module _ (row : List Bool) (phrases : List ℕ) (es : Edges) (spans : ℕ) (plac
 
     pub pass-done : i ≡ length es.starts → now ≡ tallies row phrases es spans ++ drop spans places
     pass-done h = is ∙ filled-all row phrases es spans i places h
+
+    pub pass-ends : length places ≡ spans → i ≡ length es.starts → now ≡ tallies row phrases es spans
+    pass-ends n h = pass-done h ∙ no-rest spans places (tallies row phrases es spans) n
 
 -- ---- a word whose number has no span counts nowhere: with other times it leaves every tally as it was
 module _ (row : List Bool) (phrases : List ℕ) (es : Edges) (spans i : ℕ) (w : Times) (none : spans ≤ get_or phrases i 0) where

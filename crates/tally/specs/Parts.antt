@@ -16,10 +16,6 @@ loud_between row lo hi = each (loud_turn row) (hi - lo) lo 0
 unfoldable pub added_at : ℕ → ℕ → ℕ → List ℕ → List ℕ
 added_at spans p n places = cond (ltb p spans) (set places p (get_or places p 0 + n)) places
 
--- ---- So many zeros.
-unfoldable pub zeros : ℕ → List ℕ
-zeros n = table (λ (_ : ℕ). 0) n 0
-
 -- ---- The sum over the words of span p among the first i.
 abbrev pub sofar : List Bool → List ℕ → Edges → ℕ → ℕ → ℕ
 sofar row phrases es i p = each (span_turn row phrases es p) i 0 0

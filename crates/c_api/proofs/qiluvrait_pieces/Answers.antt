@@ -1,4 +1,4 @@
--- `c_api::qiluvrait_pieces` meets its contract: what `pieces::pieces_at` answers and leaves. Assumes nothing.
+-- `c_api::qiluvrait_pieces` meets its contract: what `pieces::pieces` answers and leaves. Assumes nothing.
 use mathlib.Core.Path.{ap, ◌∙◌}
 use Rattle.pieces.specs.Pieces.{Output}
 use Rattle.c_api.specs.Answers.{cut_of}

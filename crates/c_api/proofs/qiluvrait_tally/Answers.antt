@@ -1,4 +1,4 @@
--- `c_api::qiluvrait_tally` meets its contract: what `tally::tally_at` answers and leaves. Assumes nothing.
+-- `c_api::qiluvrait_tally` meets its contract: what `tally::tally` answers and leaves. Assumes nothing.
 use Rattle.c_api.proofs.Replies.{tallied-made}
 use Rattle.c_api.proofs.qiluvrait_tally.Goals as goal
 

@@ -9,7 +9,7 @@ pub returns-in_err-judge : goal.returns-in_err-judge
 returns-in_err-judge c = rw (refused _ c.from_residual.ensures.1) (sym (call_by _ _ (sym c.in_err-judge.ensures)))
 
 pub hear-requires : goal.hear-requires
-hear-requires c = fine-limits _ _ (sym c.in_ok-judge.ensures)
+hear-requires c = (fine-limits _ _ (sym c.in_ok-judge.ensures)).1
 
 pub returns : goal.returns
 returns c = accepted-is _ _ _ _ c.hear.ensures ∙ sym (call_by _ _ (sym c.in_ok-judge.ensures))

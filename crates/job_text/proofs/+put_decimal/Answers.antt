@@ -9,4 +9,4 @@ pub returns-then-n-lt10 : goal.returns-then-n-lt10
 returns-then-n-lt10 t c = decimal-one _ _ c.if-most-eq0.false c.digit.ensures c.put_text.ensures c.if-n-lt10.true
 
 pub returns : goal.returns
-returns t c = decimal-more _ _ c.if-most-eq0.false c.put_decimal-next.ensures c.digit-2.ensures c.put_text-2.ensures c.if-n-lt10.false
+returns t c = decimal-more _ _ c.if-most-eq0.false c.put_decimal.ensures c.digit-2.ensures c.put_text-2.ensures c.if-n-lt10.false

@@ -6,4 +6,4 @@ pub returns-then-places-eq0 : goal.returns-then-places-eq0
 returns-then-places-eq0 t c = hex-none _ _ c.if-places-eq0.true
 
 pub returns : goal.returns
-returns t c = hex-more _ _ c.if-places-eq0.false c.put_hexadecimal-next.ensures c.digit.ensures c.put_text.ensures
+returns t c = hex-more _ _ c.if-places-eq0.false c.put_hexadecimal.ensures c.digit.ensures c.put_text.ensures

@@ -6,5 +6,5 @@ use Rattle.job_text.proofs.put_piece.Goals as goal
 pub returns : goal.returns
 unfolding piece_text
 returns c =
-    piece-line _ _ c.put_text-text.ensures c.put_decimal-number.ensures c.put_text-between.ensures
-    c.put_decimal-second.ensures c.put_text.ensures
+    piece-line _ _ c.put_text.ensures c.put_decimal.ensures c.put_text-2.ensures
+    c.put_decimal-2.ensures c.put_text-3.ensures

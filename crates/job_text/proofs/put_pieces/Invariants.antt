@@ -4,4 +4,4 @@ use Prim.Native.Nat.{◌+◌, ◌*◌, ◌≤◌}
 use Rattle.job_text.proofs.put_pieces.Given as goal
 
 abbrev pub invariant-loop-i : goal.invariant-loop-i
-invariant-loop-i l = Wrote (piece_lines l.starts l.ends l.i) l.at l.initial.out l.out l.next × (l.next ≤ l.at + 64 * l.i)
+invariant-loop-i l = Wrote (piece_lines l.starts l.ends l.i) l.initial.out l.out × (l.out.at ≤ l.initial.out.at + 64 * l.i)

@@ -6,4 +6,4 @@ use Rattle.job_text.proofs.put_refused.Goals as goal
 pub returns : goal.returns
 unfolding refused_text
 returns c =
-    rw (← c.from.ensures) (refused-line _ c.put_text-text.ensures c.put_decimal-number.ensures c.put_text.ensures)
+    rw (← c.from.ensures) (refused-line _ c.put_text.ensures c.put_decimal.ensures c.put_text-2.ensures)

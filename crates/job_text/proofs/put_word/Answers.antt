@@ -6,5 +6,5 @@ use Rattle.job_text.proofs.put_word.Goals as goal
 pub returns : goal.returns
 unfolding word_text
 returns c =
-    word-line _ _ _ _ c.put_text-text.ensures c.put_bits-first.ensures c.put_text-between.ensures
-    c.put_bits-second.ensures c.put_text-after.ensures c.put_phrase-number.ensures c.put_text.ensures
+    word-line _ _ _ _ c.put_text.ensures c.put_bits.ensures c.put_text-2.ensures
+    c.put_bits-2.ensures c.put_text-3.ensures c.put_phrase.ensures c.put_text-4.ensures

@@ -6,11 +6,11 @@ use Rattle.onsets.proofs.onset_back.Goals as goal
 pub loop-onset-init : goal.loop-onset-init
 loop-onset-init c = rises-first _ _ _
 
-pub returns-then-onset-k : goal.returns-then-onset-k
-returns-then-onset-k c = rises-here _ _ _ _ c.loop-onset-test.true c.frames_back-from.ensures c.first_frame-k.ensures c.loop-onset.invariant c.if-onset-k.true
+pub returns-in_default : goal.returns-in_default
+returns-in_default c = rises-here _ _ _ c.loop-onset-test.true c.frames_back-from.ensures c.loop-onset.invariant c.in_default.ensures
 
 pub loop-onset-preserved : goal.loop-onset-preserved
-loop-onset-preserved c = rises-on _ _ _ _ c.loop-onset-test.true c.frames_back-from.ensures c.first_frame-k.ensures c.loop-onset.invariant c.if-onset-k.false
+loop-onset-preserved c = rises-on _ _ _ c.loop-onset-test.true c.frames_back-from.ensures c.loop-onset.invariant _ c.in-Some.ensures
 
 pub returns : goal.returns
 returns c = rises-last _ _ _ (omega arith) c.loop-onset.invariant

@@ -15,7 +15,6 @@ returns-then-before_zero c =
 pub returns : goal.returns
 returns c =
     let z = c.frame_at-z in
-    let e = c.frame_ceil in
     seconds-from _ _ _ z.ensures (test_back z.result z.type_inv (sym c.before_zero.ensures ∙ c.if-before_zero.false))
-    (c.to_index-f.ensures ∙ ap to_nat (read_back z.result z.type_inv)) e.ensures (c.to_index.ensures ∙ ap to_nat (read_back e.result e.type_inv))
+    (c.to_index-f.ensures ∙ ap to_nat (read_back z.result z.type_inv)) c.index_ceil.ensures
     c.frames_back-lo.ensures c.onset_back.ensures c.index_seconds.ensures

@@ -3,6 +3,6 @@ use Rattle.std.proofs.Common.{rules}
 use Rattle.spread.specs.Parts.{place_around}
 use Rattle.spread.proofs.place_around.Goals as goal
 
-pub returns : goal.returns
+pub returns-clause-placed : goal.returns-clause-placed
 unfolding place_around
-returns c = search rules
+returns-clause-placed c = search rules

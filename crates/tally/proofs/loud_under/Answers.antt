@@ -4,4 +4,4 @@ use Rattle.tally.proofs.Frames.{under-made}
 use Rattle.tally.proofs.loud_under.Goals as goal
 
 pub returns : goal.returns
-returns c = (under-made _ _ _ _ c.requires c.frame_index-from.ensures (omega arith) c.loud_count.ensures.0, omega arith)
+returns c = (under-made _ _ _ _ c.between.ensures.0 c.between.ensures.1 c.loud_count.ensures.0, omega arith)

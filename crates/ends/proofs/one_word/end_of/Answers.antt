@@ -1,7 +1,6 @@
 -- `ends::one_word::end_of` meets its contract. Assumes nothing.
-use Prim.Native.Nat.{min, ◌^◌}
+use Prim.Native.Nat.{min}
 use mathlib.Core.Path.{ap, ◌∙◌}
-use native.Mathlib.Omega.{arith}
 use lib.Ieee.{Float}
 use Rattle.base.specs.Whole.{to_nat}
 use Rattle.frames.specs.Frames.{frame_at}
@@ -10,6 +9,5 @@ use Rattle.ends.proofs.one_word.end_of.Goals as goal
 
 pub returns : goal.returns
 returns c =
-    end_of_is _ _ (omega arith) _ _ _ c.frame_index-lo.ensures
-    (c.min-hi.ensures ∙ ap (min _) (c.frame_index.ensures ∙ ap (λ (x : Float). min (to_nat (frame_at x)) (2 ^ 40)) c.reach.ensures))
+    end_of_is _ _ _ _ _ c.between-r.ensures.0 (c.between-r.ensures.1 ∙ ap (min _) (ap (λ (x : Float). to_nat (frame_at x)) c.reach.ensures))
     c.sound_end-sound.ensures c.or_duration.ensures c.trim.ensures

@@ -2,4 +2,4 @@ use Rattle.envelope.proofs.Fours.{Clean}
 use Rattle.envelope.proofs.level.no_nan.Given as goal
 
 abbrev pub invariant-loop-i : goal.invariant-loop-i
-invariant-loop-i l = Clean l.part l.i l.ok
+invariant-loop-i l = Clean l.part.samples.now l.i l.ok

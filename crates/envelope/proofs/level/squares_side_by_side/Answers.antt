@@ -9,7 +9,7 @@ loop-i-init c = (left-starts _ _, (left-starts _ _, (left-starts _ _, left-start
 pub loop-i-preserved : goal.loop-i-preserved
 loop-i-preserved c =
     let h = c.loop-i.invariant in
-    let l = c.requires.0 in (
+    let l = c.args.part.whole in (
       left-next _ l 0 _ _ (omega arith) (omega arith) (omega arith) h.0,
       (
         left-next _ l 1 _ _ (omega arith) (omega arith) (omega arith) h.1.0,
@@ -23,7 +23,7 @@ loop-i-preserved c =
 pub returns : goal.returns
 returns c =
     let h = c.loop-i.invariant in
-    let l = c.requires.0 in
+    let l = c.args.part.whole in
     record {
       first = left-done _ l 0 _ (omega arith) (omega arith) h.0;
       second = left-done _ l 1 _ (omega arith) (omega arith) h.1.0;

@@ -2,5 +2,5 @@
 use Rattle.envelope.proofs.Fours.{four-stored}
 use Rattle.envelope.proofs.level.store_four.Goals as goal
 
-pub returns : goal.returns
-returns c = four-stored _ _ _ c.four_squares-sums.ensures c.root_mean.ensures c.root_mean-2.ensures c.root_mean-3.ensures c.root_mean-4.ensures
+pub returns-clause-stored : goal.returns-clause-stored
+returns-clause-stored c = four-stored _ _ _ c.four_squares-sums.ensures c.root_mean.ensures c.root_mean-2.ensures c.root_mean-3.ensures c.root_mean-4.ensures

@@ -1,16 +1,22 @@
 -- `even::stretch::borrowed` meets its contract: the code's search stops where the definition's does. Assumes nothing.
-use Rattle.std.proofs.Common.{rules, tests, arith, ◌≡◌, ◌∙◌, List, [], Float}
-use Rattle.base.specs.Loop.{down}
-use Rattle.base.specs.Words.{edges}
-use Rattle.base.proofs.Loops.{down_le}
-use Rattle.base.proofs.Searches.{found_down}
+use Rattle.std.proofs.Common.{rules, tests, arith}
+use Rattle.base.specs.TimedWords.{edges_of}
+use Rattle.base.proofs.Searches.{down-at}
 use Rattle.even.specs.Even.{borrows, borrowed}
 use Rattle.even.proofs.stretch.borrowed.Goals as goal
 
-pub returns : goal.returns
+pub returns-then-not-cramped : goal.returns-then-not-cramped
 unfolding borrowed borrows
+returns-then-not-cramped c =
+    let p = borrows c.args.w.now.weights.now (edges_of c.args.w.now) c.args.ceiling c.args.row.last in
+    (down-at p c.args.row.first c.loop-first.first (omega arith) (λ _. search (rules, tests)) c.loop-first.invariant, omega arith)
+
+pub loop-first-preserved : goal.loop-first-preserved
+unfolding borrows
+loop-first-preserved c = search (rules, tests)
+
+pub returns : goal.returns
+unfolding borrowed
 returns c =
-    let p = λ (ends : List Float). borrows c.args.letters.now (edges c.args.starts.now ends) c.args.ceiling c.args.b in
-    let found : (ends : List Float) → c.unwrap_or.result ≡ down (p ends) c.args.a =
-    λ ends. c.unwrap_or.ensures ∙ found_down _ (p ends) (λ x b q k. search (rules, tests)) _ _ _ c.args.a (cc) (cc) (cc) c.find.ensures.ran in
-    (found, omega (arith, found [], down_le (p []) c.args.a))
+    let p = borrows c.args.w.now.weights.now (edges_of c.args.w.now) c.args.ceiling c.args.row.last in
+    (down-at p c.args.row.first 0 (omega arith) (λ h. absurd (omega arith)) (λ k low high. c.loop-first.invariant k (omega arith) high), omega arith)

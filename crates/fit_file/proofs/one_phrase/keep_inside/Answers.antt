@@ -6,11 +6,11 @@ use Rattle.fit_file.proofs.one_phrase.keep_inside.Goals as goal
 
 pub loop-i-init : goal.loop-i-init
 unfolding keep_inside
-loop-i-init c = (refl, (refl, each_start _ _ _))
+loop-i-init c = ((refl, (refl, refl)), (refl, each_start _ _ _))
 
 pub loop-i-preserved : goal.loop-i-preserved
 unfolding inside_turn
 loop-i-preserved c = (search rules, (search rules, c.loop-i.invariant.1.1 ∙ each_next _ _ _ (omega arith) (search rules)))
 
-pub returns : goal.returns
-returns c = sym (c.loop-i.invariant.1.1 ∙ each-done _ _ _ _ (omega arith))
+pub returns-clause-inside : goal.returns-clause-inside
+returns-clause-inside c = sym (c.loop-i.invariant.1.1 ∙ each-done _ _ _ _ (omega arith))

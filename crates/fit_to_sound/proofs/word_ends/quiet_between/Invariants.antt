@@ -9,4 +9,4 @@ use Rattle.fit_to_sound.proofs.word_ends.quiet_between.Given as goal
 
 abbrev pub invariant-loop-k : goal.invariant-loop-k
 invariant-loop-k l =
-    (l.run < 15) × (quiet_between (loud_row l.e.floor l.e.levels.now) (pos l.lo) (pos l.hi) ≡ (run_turns (quiet_turn (loud_row l.e.floor l.e.levels.now)) (l.hi - l.k) (pos l.k) (on (running l.run))).met)
+    (l.run < 15) × (quiet_between (loud_row l.e.floor l.e.levels.now) (pos l.fn.r.lo) (pos l.fn.r.hi) ≡ (run_turns (quiet_turn (loud_row l.e.floor l.e.levels.now)) (l.fn.r.hi - l.k) (pos l.k) (on (running l.run))).met)

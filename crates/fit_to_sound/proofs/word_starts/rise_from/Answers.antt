@@ -7,10 +7,10 @@ use Rattle.fit_to_sound.proofs.word_starts.rise_from.Goals as goal
 
 pub returns-then-k-stop : goal.returns-then-k-stop
 returns-then-k-stop c =
-    rise-met _ _ (omega arith) _ (omega arith) _ _ refl
-    (c.min-ahead.ensures ∙ ap (min _) c.frame_index.ensures) c.stop_before.ensures
+    rise-met _ _ _ (omega arith) _ _ refl
+    (c.min-ahead.ensures ∙ ap (min _) c.index_at.ensures) c.stop_before.ensures
     c.min-stop.ensures c.rise_frame-k.ensures c.if-k-stop.true
     c.index_seconds.ensures c.moved_to.ensures
 
 pub returns : goal.returns
-returns c = rise-none _ _ (omega arith) _ (omega arith) _ _ refl (c.min-ahead.ensures ∙ ap (min _) c.frame_index.ensures) c.stop_before.ensures c.min-stop.ensures c.rise_frame-k.ensures c.if-k-stop.false
+returns c = rise-none _ _ _ (omega arith) _ _ refl (c.min-ahead.ensures ∙ ap (min _) c.index_at.ensures) c.stop_before.ensures c.min-stop.ensures c.rise_frame-k.ensures c.if-k-stop.false

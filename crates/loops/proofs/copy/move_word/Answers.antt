@@ -3,6 +3,6 @@ use mathlib.Core.Path.{refl}
 use Rattle.loops.specs.Parts.{moved}
 use Rattle.loops.proofs.copy.move_word.Goals as goal
 
-pub returns : goal.returns
+pub returns-clause-moved : goal.returns-clause-moved
 unfolding moved
-returns c = refl
+returns-clause-moved c = refl

@@ -3,5 +3,5 @@ use native.Mathlib.Omega.{arith}
 use Rattle.loops.proofs.InPlace.{pass-short}
 use Rattle.loops.proofs.pass.pass.Goals as goal
 
-pub returns-then-len-n : goal.returns-then-len-n
-returns-then-len-n c = (pass-short _ _ (omega arith) _ _ c.requires.0 c.if-len-n.true, omega arith)
+pub returns-then-len-n-clause-passed : goal.returns-then-len-n-clause-passed
+returns-then-len-n-clause-passed c = pass-short _ _ (omega arith) _ _ c.args.w.now.alike c.if-len-n.true

@@ -6,11 +6,11 @@ use Rattle.run_stages.proofs.on_words.time_words.Goals as goal
 
 pub snap-requires : goal.snap-requires
 snap-requires c =
-    let p = c.requires.0 in (omega (arith, p.0.0, p.0.1.0), (omega (arith, p.0.0, p.0.1.1.0), (omega (arith, p.0.0, p.0.1.1.1.0), (p.1.1.1.1.1.0, c.requires.1))))
+    let p = c.requires.0 in (omega (arith, p.0.0, p.0.1.0), (omega (arith, p.0.0, p.0.1.1.0), (omega (arith, p.0.0, p.0.1.1.1.0), c.requires.1)))
 
 pub fit_words-requires : goal.fit_words-requires
 fit_words-requires c =
-    let p = c.requires.0 in (omega (arith, p.0.0, p.0.1.0, c.snap.auto.starts, c.snap.auto.ends), (omega (arith, p.0.0, p.0.1.1.0, c.snap.auto.starts), (omega (arith, p.0.0, p.1.0, c.snap.auto.starts), p.1.1.1.1.1.0)))
+    let p = c.requires.0 in (omega (arith, p.0.0, p.0.1.0, c.snap.auto.starts, c.snap.auto.ends), (omega (arith, p.0.0, p.0.1.1.0, c.snap.auto.starts), omega (arith, p.0.0, p.1.0, c.snap.auto.starts)))
 
 pub returns-then-spans-eq0 : goal.returns-then-spans-eq0
 returns-then-spans-eq0 c =

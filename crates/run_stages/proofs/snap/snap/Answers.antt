@@ -3,7 +3,7 @@ use Rattle.run_stages.proofs.Row.{snap-is}
 use Rattle.run_stages.proofs.snap.snap.Goals as goal
 
 pub move_tails-requires : goal.move_tails-requires
-move_tails-requires c = let p = c.requires in (p.0, (p.1.0, (p.1.1.1.0, p.1.1.1.1)))
+move_tails-requires c = let p = c.requires in (p.0, (p.1.0, p.1.1.1))
 
 pub returns : goal.returns
 returns c =

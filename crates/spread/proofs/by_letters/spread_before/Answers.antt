@@ -2,5 +2,5 @@
 use Rattle.spread.proofs.Sides.{before-made}
 use Rattle.spread.proofs.by_letters.spread_before.Goals as goal
 
-pub returns : goal.returns
-returns c = before-made _ _ _ _ _ c.spread.ensures
+pub returns-clause-spread : goal.returns-clause-spread
+returns-clause-spread c = before-made _ _ _ _ _ c.spread.ensures

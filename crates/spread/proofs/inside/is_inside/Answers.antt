@@ -3,10 +3,10 @@ use Rattle.std.proofs.Common.{rules}
 use Rattle.spread.specs.Spread.{inside}
 use Rattle.spread.proofs.inside.is_inside.Goals as goal
 
-pub returns-then-w-to : goal.returns-then-w-to
+pub returns-then-w-span-2 : goal.returns-then-w-span-2
 unfolding inside
-returns-then-w-to c = search rules
+returns-then-w-span-2 c = search rules
 
-pub returns-else-w-to : goal.returns-else-w-to
+pub returns-else-w-span-2 : goal.returns-else-w-span-2
 unfolding inside
-returns-else-w-to c = search rules
+returns-else-w-span-2 c = search rules
