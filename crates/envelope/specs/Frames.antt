@@ -1,6 +1,6 @@
--- Which frames of an envelope are loud, and which are quiet. Assumes nothing.
-use Rattle.std.specs.Prelude.{Bool, List}
-use Rattle.envelope.specs.Envelope.{loud_row, quiet_row}
+-- Which frames of an envelope are loud, and which are quiet; and the searches among them. Assumes nothing.
+use Rattle.std.specs.Prelude.{ℕ, zero, suc, ◌+◌, ◌-◌, Bool, not, cond, List, pos, Option, Some, None}
+use Rattle.envelope.specs.Envelope.{loud_row, quiet_row, loud}
 use Rattle.envelope.specs.declared.view.Envelope.{Envelope}
 
 abbrev pub loud_in : Envelope → List Bool
@@ -8,3 +8,26 @@ loud_in e = loud_row e.floor e.levels.now
 
 abbrev pub quiet_in : Envelope → List Bool
 quiet_in e = quiet_row e.floor e.levels.now
+
+-- ======== The searches of onsets.rs and fit.rs
+
+-- ---- loud(k) == want
+abbrev pub wanted : List Bool → Bool → ℕ → Bool
+wanted row want k = cond want (loud row (pos k)) (not (loud row (pos k)))
+
+-- ---- Of n frames from frame k on, the first that is loud, where `want` is true, or that is not, where it is false.
+unfoldable pub first_of : List Bool → Bool → ℕ → ℕ → Option ℕ
+first_of row want zero k = None
+first_of row want (suc n) k = cond (wanted row want k) (Some k) (first_of row want n (suc k))
+
+-- ---- Of n frames from frame k on, the last that is loud.
+unfoldable pub last_of : List Bool → ℕ → ℕ → Option ℕ
+last_of row zero k = None
+last_of row (suc n) k = cond (loud row (pos (k + n))) (Some (k + n)) (last_of row n k)
+
+-- ---- The first such frame from lo to before hi, and the last loud one.
+abbrev pub first_frame : List Bool → Bool → ℕ → ℕ → Option ℕ
+first_frame row want lo hi = first_of row want (hi - lo) lo
+
+abbrev pub last_frame : List Bool → ℕ → ℕ → Option ℕ
+last_frame row lo hi = last_of row (hi - lo) lo

@@ -3,7 +3,7 @@ ghost use Rattle.std.specs.Prelude.{◌≡◌, false, not, length, min, slice_in
 ghost use Rattle.base.specs.Whole.{to_nat};
 ghost use Rattle.frames.specs.Frames.{frame_at};
 ghost use Rattle.envelope.specs.Envelope.{own_floor};
-ghost use Rattle.envelope.specs.Frames.{loud_in};
+ghost use Rattle.envelope.specs.Frames.{loud_in, first_frame, last_frame};
 ghost use Rattle.envelope.specs.Parts.{Throughout, IsFirst, IsLast};
 
 use super::frame_range::FrameRange;
@@ -61,7 +61,8 @@ impl<'a> Envelope<'a> {
 
     // The first frame from lo to before hi that is loud, or that is not, if there is one.
     pub fn first_frame(self, want: bool, lo: usize, hi: usize) -> Option<usize>
-        ensures { let row = loud_in self.entry in
+        ensures answer { result ≡ first_frame (loud_in self.entry) want lo hi }
+        ensures found { let row = loud_in self.entry in
             MatchOption result (Throughout row (not want) lo hi) (IsFirst row want lo hi) }
     {
         for k in lo..hi {
@@ -74,7 +75,8 @@ impl<'a> Envelope<'a> {
 
     // The last loud frame from lo to before hi, if there is one.
     pub fn last_frame(self, lo: usize, hi: usize) -> Option<usize>
-        ensures { let row = loud_in self.entry in
+        ensures answer { result ≡ last_frame (loud_in self.entry) lo hi }
+        ensures found { let row = loud_in self.entry in
             MatchOption result (Throughout row false lo hi) (IsLast row lo hi) }
     {
         for k in (lo..hi).rev() {
