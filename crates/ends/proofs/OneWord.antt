@@ -1,18 +1,18 @@
 -- One word: what each test of the code decides, and what its times become. Assumes nothing.
 use Rattle.std.specs.Prelude.{Option, Some, None}
-use Prim.Native.Nat.{ℕ, ◌+◌, ◌<◌, ◌≤◌}
+use Prim.Native.Nat.{ℕ, ◌+◌, ◌<◌}
 use mathlib.Core.Bool.{Bool, true, false, ◌&&◌}
 use mathlib.Core.List.{List}
 use mathlib.Core.Path.{◌≡◌, refl, sym, ap}
-use borrow.Author.Tests.{ltb-true, lt-ltb, le-ltb}
+use borrow.Author.Tests.{ltb-true}
 use lib.Dec.{ltb}
-use lib.ListN.{get_or, length}
-use lib.Ieee.{Float, nan, lt}
+use lib.ListN.{length}
+use lib.Ieee.{Float, lt}
 use Rattle.base.specs.Floats.{◌⊕◌, ◌⊖◌}
 use Rattle.base.specs.Words.{times}
 use Rattle.base.specs.declared.Times.{Times}
 use Rattle.js.specs.Js.{js_min, js_max}
-use Rattle.ends.specs.Ends.{no_length, next_start, soon, is_pair, reach, or_duration, trimmed, pair_start, pair_edge, pair_of}
+use Rattle.ends.specs.Ends.{no_length, next_start, is_pair, trimmed, pair_start, pair_edge, pair_of}
 use Rattle.ends.specs.Parts.{is_loose}
 
 module _ (starts : List Float) (i : ℕ) where

@@ -66,7 +66,7 @@ pub fn end_of(e: Envelope<'_>, duration: f64, next: Option<f64>, w: Times) -> Ti
     ensures { result ≡ end_of (loud_in e.entry) duration next w }
 {
     let r = e.between(w.start, reach(next, duration, w.start));
-    let sound = super::sound::sound_end(e, EDGE_QUIET, r);
+    let sound = super::sound::sound_end_in(e, EDGE_QUIET, r);
     trim(sound, or_duration(next, duration), w)
 }
 

@@ -1,2 +1,3 @@
 -- Crushed words, and the time they get.
 pub mod Even
+pub mod WeighedWords

@@ -13,6 +13,7 @@ use base::word_lists::WordLists;
 use stretch::{Row, Stretch};
 
 pub mod stretch;
+mod weighed_words;
 
 // The words of a run share its time by letters.
 fn even_run(w: &mut TimedWords<'_>, r: Stretch)
@@ -47,8 +48,11 @@ fn even_turn(w: &mut TimedWords<'_>, limit: f64, i: usize) -> usize
         ≡ even_turn w.old.weights.now limit (record { edges = edges_of w.old; i = i }))
         × (i < result) }
 {
-    if stretch::is_crushed(w, i) {
-        let r = stretch::stretch_of(w, limit, i);
+    // The times are only read: lent on their own, they are known to stay.
+    let starts = &mut *w.starts;
+    let ends = &mut *w.ends;
+    if stretch::is_crushed(starts, ends, i) {
+        let r = stretch::stretch_of(starts, ends, w.weights, limit, i);
         even_run(w, r);
         return r.last + 1;
     }

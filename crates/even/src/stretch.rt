@@ -2,12 +2,13 @@
 ghost use Rattle.std.specs.Prelude.{◌≡◌, ◌&&◌, ◌-◌, ◌<◌, ◌≤◌, ltb, length};
 ghost use Rattle.std.specs.Float.Ieee.{lt};
 ghost use Rattle.base.specs.Floats.{◌⊗◌};
-ghost use Rattle.base.specs.TimedWords.{edges_of};
+ghost use Rattle.base.specs.Words.{edges};
+ghost use Rattle.even.specs.WeighedWords.{edges_of};
 ghost use Rattle.even.specs.Even.{min_letter, max_span, sum as sum_of, crushed, swollen, first_crushed, with_swollen, last_crushed};
 ghost use Rattle.even.specs.Even.{grown as grown_to, ceiling_of, borrowed as borrowed_to, end_of, stretch_of};
 
+use crate::weighed_words::WeighedWords;
 use base::MIN_LETTER;
-use base::timed_words::TimedWords;
 
 // A word of fewer seconds is crushed.
 const CRUSHED: f64 = 0.08;
@@ -38,18 +39,18 @@ pub struct Row {
 
 // A word that is too short to have been said.
 #[tactic(auto, unfolding(crate::specs::Even::crushed))]
-pub(crate) fn is_crushed(w: &TimedWords<'_>, i: usize) -> bool
-    requires { i < length w.now.starts.now }
-    ensures { result ≡ crushed (edges_of w.now) i }
+pub fn is_crushed(starts: &[f64], ends: &[f64], i: usize) -> bool
+    requires { (i < length starts.now) × (i < length ends.now) }
+    ensures { result ≡ crushed (edges starts.now ends.now) i }
 {
-    w.ends[i] - w.starts[i] < CRUSHED
+    ends[i] - starts[i] < CRUSHED
 }
 
 // A word that lasts longer than its letters can take.
 #[tactic(auto, unfolding(crate::specs::Even::swollen))]
-fn is_swollen(w: &TimedWords<'_>, i: usize) -> bool
-    requires { i < length w.now.starts.now }
-    ensures { result ≡ swollen w.now.weights.now (edges_of w.now) i }
+fn is_swollen(w: WeighedWords<'_>, i: usize) -> bool
+    requires { i < length w.starts.now }
+    ensures { result ≡ swollen w.entry.weights.now (edges_of w.entry) i }
 {
     w.ends[i] - w.starts[i] > SWOLLEN_BASE + SLOW_LETTER * (w.weights[i] as f64)
 }
@@ -64,12 +65,12 @@ pub fn sum(letters: &[u32], row: Row) -> f64
 }
 
 // The first of the crushed words that stand in a row before word i.
-fn first_crushed(w: &TimedWords<'_>, i: usize) -> usize
-    requires { i ≤ length w.now.starts.now }
-    ensures { (result ≡ first_crushed (edges_of w.now) i) × (result ≤ i) }
+fn first_crushed(w: WeighedWords<'_>, i: usize) -> usize
+    requires { i ≤ length w.starts.now }
+    ensures { (result ≡ first_crushed (edges_of w.entry) i) × (result ≤ i) }
 {
     for a in (1..=i).rev() {
-        if !is_crushed(w, a - 1) {
+        if !is_crushed(w.starts, w.ends, a - 1) {
             return a;
         }
     }
@@ -78,9 +79,9 @@ fn first_crushed(w: &TimedWords<'_>, i: usize) -> usize
 
 // A run from word a on takes the word before it along where that one is swollen.
 #[tactic(auto, unfolding(crate::specs::Even::with_swollen))]
-fn with_swollen(w: &TimedWords<'_>, a: usize) -> usize
-    requires { a ≤ length w.now.starts.now }
-    ensures { (result ≡ with_swollen w.now.weights.now (edges_of w.now) a) × (result ≤ a) }
+fn with_swollen(w: WeighedWords<'_>, a: usize) -> usize
+    requires { a ≤ length w.starts.now }
+    ensures { (result ≡ with_swollen w.entry.weights.now (edges_of w.entry) a) × (result ≤ a) }
 {
     if a > 0 && is_swollen(w, a - 1) {
         a - 1
@@ -90,14 +91,14 @@ fn with_swollen(w: &TimedWords<'_>, a: usize) -> usize
 }
 
 // The last of the crushed words that stand in a row after word i.
-fn last_crushed(w: &TimedWords<'_>, i: usize) -> usize
-    requires { i < length w.now.starts.now }
-    ensures { let len = length w.now.starts.now in
-        (result ≡ last_crushed (edges_of w.now) len i) × ((i ≤ result) × (result < len)) }
+fn last_crushed(w: WeighedWords<'_>, i: usize) -> usize
+    requires { i < length w.starts.now }
+    ensures { let len = length w.entry.starts.now in
+        (result ≡ last_crushed (edges_of w.entry) len i) × ((i ≤ result) × (result < len)) }
 {
     let end = w.starts.len() - 1;
     for b in i..end {
-        if !is_crushed(w, b + 1) {
+        if !is_crushed(w.starts, w.ends, b + 1) {
             return b;
         }
     }
@@ -114,10 +115,10 @@ fn cramped(letters: &[u32], room: f64, row: Row) -> bool
 }
 
 // The last word of a run that takes words after it along while it has too little room before them.
-fn grown(w: &TimedWords<'_>, row: Row) -> usize
-    requires { (row.last < length w.now.starts.now) × (length w.now.starts.now ≤ 4096) }
-    ensures { let len = length w.now.starts.now in
-        (result ≡ grown_to w.now.weights.now (edges_of w.now) len row.first row.last)
+fn grown(w: WeighedWords<'_>, row: Row) -> usize
+    requires { (row.last < length w.starts.now) × (length w.starts.now ≤ 4096) }
+    ensures { let len = length w.entry.starts.now in
+        (result ≡ grown_to w.entry.weights.now (edges_of w.entry) len row.first row.last)
         × ((row.last ≤ result) × (result < len)) }
 {
     let first = row.first;
@@ -133,9 +134,9 @@ fn grown(w: &TimedWords<'_>, row: Row) -> usize
 
 // The time that a run up to word b must not pass: the next word's start, or the limit.
 #[tactic(auto, unfolding(crate::specs::Even::ceiling_of))]
-fn ceiling(w: &TimedWords<'_>, limit: f64, b: usize) -> f64
-    requires { b < length w.now.starts.now }
-    ensures { result ≡ ceiling_of w.now.weights.now (edges_of w.now) limit (length w.now.starts.now) b }
+fn ceiling(w: WeighedWords<'_>, limit: f64, b: usize) -> f64
+    requires { b < length w.starts.now }
+    ensures { result ≡ ceiling_of w.entry.weights.now (edges_of w.entry) limit (length w.entry.starts.now) b }
 {
     if b + 1 < w.starts.len() {
         return w.starts[b + 1];
@@ -144,9 +145,9 @@ fn ceiling(w: &TimedWords<'_>, limit: f64, b: usize) -> f64
 }
 
 // The first word of a run that takes words before it along while it has too little room up to the ceiling.
-fn borrowed(w: &TimedWords<'_>, ceiling: f64, row: Row) -> usize
-    requires { (row.last < length w.now.starts.now) × (length w.now.starts.now ≤ 4096) }
-    ensures { (result ≡ borrowed_to w.now.weights.now (edges_of w.now) ceiling row.last row.first) × (result ≤ row.first) }
+fn borrowed(w: WeighedWords<'_>, ceiling: f64, row: Row) -> usize
+    requires { (row.last < length w.starts.now) × (length w.starts.now ≤ 4096) }
+    ensures { (result ≡ borrowed_to w.entry.weights.now (edges_of w.entry) ceiling row.last row.first) × (result ≤ row.first) }
 {
     let last = row.last;
     for first in (1..=row.first).rev() {
@@ -159,9 +160,9 @@ fn borrowed(w: &TimedWords<'_>, ceiling: f64, row: Row) -> usize
 
 // Where the last word of a run ends: not past the ceiling nor later than said slowly, and not before it did.
 #[tactic(auto, unfolding(crate::specs::Even::end_of))]
-fn run_end(w: &TimedWords<'_>, ceiling: f64, row: Row) -> f64
-    requires { (row.last < length w.now.starts.now) × (length w.now.starts.now ≤ 4096) }
-    ensures { result ≡ end_of w.now.weights.now (edges_of w.now) ceiling row.first row.last }
+fn run_end(w: WeighedWords<'_>, ceiling: f64, row: Row) -> f64
+    requires { (row.last < length w.starts.now) × (length w.starts.now ≤ 4096) }
+    ensures { result ≡ end_of w.entry.weights.now (edges_of w.entry) ceiling row.first row.last }
 {
     let count = (row.last - row.first + 1) as f64;
     let slow = w.starts[row.first] + SLOW_LETTER * sum(w.weights, row) + SLOW_WORD * count;
@@ -170,11 +171,19 @@ fn run_end(w: &TimedWords<'_>, ceiling: f64, row: Row) -> f64
 
 // The run of the crushed word i.
 #[tactic(auto, unfolding(crate::specs::Even::stretch_of))]
-pub(crate) fn stretch_of(w: &TimedWords<'_>, limit: f64, i: usize) -> Stretch
-    requires { (i < length w.now.starts.now) × (length w.now.starts.now ≤ 4096) }
-    ensures { (result ≡ stretch_of w.now.weights.now (edges_of w.now) limit i)
-        × ((result.first ≤ result.last) × ((i ≤ result.last) × (result.last < length w.now.starts.now))) }
+pub fn stretch_of(starts: &[f64], ends: &[f64], letters: &[u32], limit: f64, i: usize) -> Stretch
+    requires { (i < length starts.now)
+        × ((length ends.now ≡ length starts.now)
+        × ((length letters.now ≡ length starts.now) × (length starts.now ≤ 4096))) }
+    ensures { let before = edges starts.now ends.now in
+        (result ≡ stretch_of letters.now before limit i)
+        × ((result.first ≤ result.last) × ((i ≤ result.last) × (result.last < length starts.now))) }
 {
+    let w = WeighedWords {
+        starts,
+        ends,
+        weights: letters,
+    };
     let a = with_swollen(w, first_crushed(w, i));
     let b = last_crushed(w, i);
     let last = grown(w, Row { first: a, last: b });

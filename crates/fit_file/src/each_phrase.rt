@@ -15,19 +15,35 @@ fn fit_phrase(w: &mut PhrasedWords<'_>, p: u32, e: Envelope<'_>, duration: f64, 
     ensures same { SameLists w.old w.new }
     ensures fitted { edges_of w.new ≡ fit_phrase (loud_in e.entry) duration w.old.letters.now w.old.phrases.now span p (edges_of w.old) }
 {
-    let n = super::group::gather(w, p);
+    // Lists, and not the struct: each phrase goes through all words, and lists that stand behind a reference are slower.
+    let starts = &mut *w.starts;
+    let ends = &mut *w.ends;
+    let phrases = w.phrases;
+    let work_starts = &mut *w.work_starts;
+    let work_ends = &mut *w.work_ends;
+    let work_letters = &mut *w.work_letters;
+    let n = super::group::gather(
+        starts,
+        ends,
+        w.letters,
+        phrases,
+        p,
+        work_starts,
+        work_ends,
+        work_letters,
+    );
     if n == 0 {
         return;
     }
     super::one_phrase::fit_group(
-        &mut w.work_starts[0..n],
-        &mut w.work_ends[0..n],
-        &w.work_letters[0..n],
+        &mut work_starts[0..n],
+        &mut work_ends[0..n],
+        &work_letters[0..n],
         e,
         duration,
         span,
     );
-    super::group::put_back(w, p);
+    super::group::put_back(starts, ends, phrases, p, work_starts, work_ends);
 }
 
 // Fits words to their sound, phrase by phrase (fit.rs, fit_file); nothing is checked.

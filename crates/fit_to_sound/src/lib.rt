@@ -22,11 +22,14 @@ pub fn fit_words(w: &mut TimedWords<'_>, e: Envelope<'_>, duration: f64)
     ensures same { SameLists w.old w.new }
     ensures fitted { edges_of w.new ≡ fit_to_sound (loud_in e.entry) duration w.old.weights.now (edges_of w.old) }
 {
-    word_starts::put_in_order(w, duration);
-    word_starts::move_to_rise(w, e);
-    word_starts::clip(w);
+    word_starts::put_in_order(w.starts, w.ends, duration);
+    word_starts::move_to_rise(w.starts, w.ends, e);
+    // Here and below the starts are only read: lent on their own, they are known to stay.
+    let starts = &mut *w.starts;
+    word_starts::clip(starts, w.ends);
     even::even_words(w, f64::INFINITY);
-    word_ends::settle_ends(w, e, duration);
+    let starts = &mut *w.starts;
+    word_ends::settle_ends(starts, w.ends, w.weights, e, duration);
     even::even_words(w, duration);
 }
 

@@ -1,11 +1,10 @@
 // Ends settled on their sound (fit.rs, fit_to_sound, steps 5 and 6).
-ghost use Rattle.std.specs.Prelude.{◌≡◌, ◌<◌, pos, Float, Bool, List};
-ghost use Rattle.base.specs.TimedWords.{edges_of, SameLists};
+ghost use Rattle.std.specs.Prelude.{◌≡◌, ◌<◌, pos, length, Float, Bool, List};
+ghost use Rattle.base.specs.Words.{edges};
 ghost use Rattle.fit_to_sound.specs.FitToSound.{sound_end_in, quiet_between, quiet_run, cut_back, lasts_to, ended_by, end_of, settle_ends};
 ghost use Rattle.fit_to_sound.specs.Parts.{counted as counted_of, is_loose};
 ghost use Rattle.envelope.specs.Frames.{loud_in};
 
-use base::timed_words::TimedWords;
 use base::{END_SILENCE, LOOSE, MIN_LETTER, Times};
 use envelope::frame_range::FrameRange;
 use envelope::view::Envelope;
@@ -17,7 +16,7 @@ const MAX_NEED: f64 = 0.3;
 fn sound_end_in(e: Envelope<'_>, from: f64, to: f64) -> Option<f64>
     ensures { result ≡ sound_end_in (loud_in e.entry) from to }
 {
-    ends::sound::sound_end(e, END_SILENCE, e.between(from, to))
+    ends::sound::sound_end_in(e, END_SILENCE, e.between(from, to))
 }
 
 // So many quiet frames in a row, with one frame more.
@@ -132,14 +131,25 @@ fn end_of(e: Envelope<'_>, duration: f64, next: Option<f64>, letters: u32, w: Ti
 }
 
 // Settles each word's end on its sound.
-pub(crate) fn settle_ends(w: &mut TimedWords<'_>, e: Envelope<'_>, duration: f64)
-    ensures same { SameLists w.old w.new }
-    ensures settled { edges_of w.new ≡ settle_ends (loud_in e.entry) duration w.old.weights.now (edges_of w.old) }
+pub fn settle_ends(
+    starts: &[f64],
+    ends: &mut [f64],
+    letters: &[u32],
+    e: Envelope<'_>,
+    duration: f64,
+)
+    requires { (length ends.old ≡ length starts.now) × (length letters.now ≡ length starts.now) }
+    ensures { let before = edges starts.now ends.old in
+        let after = edges starts.now ends.new in
+        after ≡ settle_ends (loud_in e.entry) duration letters.now before }
 {
-    for i in 0..w.starts.len() {
-        let t = w.at(i);
-        let next = ends::one_word::start_after(w, i);
-        let settled = end_of(e, duration, next, w.weights[i], t);
-        w.ends[i] = settled.end;
+    for i in 0..starts.len() {
+        let w = Times {
+            start: starts[i],
+            end: ends[i],
+        };
+        let next = ends::one_word::next_start(starts, i);
+        let settled = end_of(e, duration, next, letters[i], w);
+        ends[i] = settled.end;
     }
 }

@@ -1,13 +1,12 @@
 // Starts in order, and moved to their sound; no word runs into the next (fit.rs, fit_to_sound, steps 1 to 3).
 ghost use Rattle.std.specs.Prelude.{◌≡◌, ◌+◌, ◌<◌, ◌≤◌, ◌^◌, pos, length};
-ghost use Rattle.base.specs.TimedWords.{edges_of, SameLists};
+ghost use Rattle.base.specs.Words.{edges};
 ghost use Rattle.fit_to_sound.specs.FitToSound.{step_start, in_order, put_in_order, is_loud_run, rise_frame, moved_to, rise_of, move_to_rise};
 ghost use Rattle.fit_to_sound.specs.FitToSound.{clipped, clip as clip_all};
 ghost use Rattle.fit_to_sound.specs.Parts.{stop_index, rise_from};
 ghost use Rattle.envelope.specs.Frames.{loud_in};
 
 use base::Times;
-use base::timed_words::TimedWords;
 use envelope::frame_range::FrameRange;
 use envelope::view::Envelope;
 
@@ -23,14 +22,14 @@ const MAX_KEEP: f64 = 0.5;
 const LOUD_RUN: usize = 3;
 // Word i's start, 0.02 s after the start before it at the least.
 #[tactic(auto, unfolding(crate::specs::FitToSound::step_start))]
-fn step_start(w: &TimedWords<'_>, i: usize) -> f64
-    requires { i < length w.now.starts.now }
-    ensures { result ≡ step_start w.now.starts.now i }
+fn step_start(starts: &[f64], i: usize) -> f64
+    requires { i < length starts.now }
+    ensures { result ≡ step_start starts.now i }
 {
     if 0 < i {
-        return js::js_max(w.starts[i], w.starts[i - 1] + MIN_STEP);
+        return js::js_max(starts[i], starts[i - 1] + MIN_STEP);
     }
-    w.starts[i]
+    starts[i]
 }
 
 // A word that ends no sooner than it starts, and no later than the duration.
@@ -45,16 +44,20 @@ fn in_order(duration: f64, w: Times) -> Times
 }
 
 // Puts starts in order, and ends behind them (fit_to_sound, step 1).
-pub(crate) fn put_in_order(w: &mut TimedWords<'_>, duration: f64)
-    ensures same { SameLists w.old w.new }
-    ensures ordered { edges_of w.new ≡ put_in_order duration (edges_of w.old) }
+pub fn put_in_order(starts: &mut [f64], ends: &mut [f64], duration: f64)
+    requires { length ends.old ≡ length starts.old }
+    ensures { edges starts.new ends.new ≡ put_in_order duration (edges starts.old ends.old) }
 {
-    for i in 0..w.starts.len() {
-        let t = Times {
-            start: step_start(w, i),
-            end: w.ends[i],
-        };
-        w.put(i, in_order(duration, t));
+    for i in 0..starts.len() {
+        let w = in_order(
+            duration,
+            Times {
+                start: step_start(starts, i),
+                end: ends[i],
+            },
+        );
+        starts[i] = w.start;
+        ends[i] = w.end;
     }
 }
 
@@ -130,14 +133,22 @@ fn rise_of(e: Envelope<'_>, next: Option<f64>, w: Times) -> Times
 }
 
 // Moves starts in silence to their sound.
-pub(crate) fn move_to_rise(w: &mut TimedWords<'_>, e: Envelope<'_>)
-    ensures same { SameLists w.old w.new }
-    ensures moved { edges_of w.new ≡ move_to_rise (loud_in e.entry) (edges_of w.old) }
+pub fn move_to_rise(starts: &mut [f64], ends: &mut [f64], e: Envelope<'_>)
+    requires { length ends.old ≡ length starts.old }
+    ensures { edges starts.new ends.new ≡ move_to_rise (loud_in e.entry) (edges starts.old ends.old) }
 {
-    for i in 0..w.starts.len() {
-        let next = ends::one_word::start_after(w, i);
-        let t = rise_of(e, next, w.at(i));
-        w.put(i, t);
+    for i in 0..starts.len() {
+        let next = ends::one_word::next_start(starts, i);
+        let w = rise_of(
+            e,
+            next,
+            Times {
+                start: starts[i],
+                end: ends[i],
+            },
+        );
+        starts[i] = w.start;
+        ends[i] = w.end;
     }
 }
 
@@ -156,11 +167,15 @@ fn clipped_to(next: f64, w: Times) -> Times
 }
 
 // No word runs into the next one (fit_to_sound, step 3).
-pub(crate) fn clip(w: &mut TimedWords<'_>)
-    ensures same { SameLists w.old w.new }
-    ensures clipped { edges_of w.new ≡ clip_all (edges_of w.old) }
+pub fn clip(starts: &[f64], ends: &mut [f64])
+    requires { length ends.old ≡ length starts.now }
+    ensures { edges starts.now ends.new ≡ clip_all (edges starts.now ends.old) }
 {
-    for i in 0..w.starts.len().saturating_sub(1) {
-        w.ends[i] = clipped_to(w.starts[i + 1], w.at(i)).end;
+    for i in 0..starts.len().saturating_sub(1) {
+        let w = Times {
+            start: starts[i],
+            end: ends[i],
+        };
+        ends[i] = clipped_to(starts[i + 1], w).end;
     }
 }

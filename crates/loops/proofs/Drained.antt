@@ -10,7 +10,7 @@ use Rattle.loops.specs.Loops.{drained}
 
 module _ {A : Type 0} where
   -- a part of the first p
-  part-first : (i n p : ℕ) (xs : List A) → i + n ≤ p → take n (drop i (take p xs)) ≡ take n (drop i xs)
+  pub part-first : (i n p : ℕ) (xs : List A) → i + n ≤ p → take n (drop i (take p xs)) ≡ take n (drop i xs)
   part-first zero n p xs h = take-take n p xs (omega arith)
   part-first (suc i) n zero xs h = absurd (omega arith)
   part-first (suc i) n (suc p) [] h = refl

@@ -127,6 +127,14 @@ module _ (m len : ℕ) (fits : len ≤ m) where
         ap (each (turn_words n) (len - (i + 1)) (i + 1)) (move-made ws even (i + n) rest h k ∙ rw (z, e))
         ∙ turn ws' even' (i + 1) (rest + 1) r (omega arith) (omega arith) l b g
 
+    -- a turn of the loop, which lends its lists to be moved as one value
+    pub turned : {X mid ws' : Words} {rest r : ℕ} (ws : Words) (i : ℕ) → 0 < n → OneLength m ws → i + n ≤ rest → rest < len → mid ≡ moved (i + n) rest ws → ws' ≡ mid → rest + 1 ≤ r → r ≤ len
+        → i + 1 + n + (r - (rest + 1)) ≡ goes_on n (i + 1) (held_keys (i + 1 + n) (rest + 1) (take len ws'.keys)) → X ≡ after len n i rest ws
+        → OneLength m ws' × ((i + 1 + n ≤ r) × ((r ≤ len) × (X ≡ after len n (i + 1) r ws')))
+    turned ws i some even h k e lent l b g x =
+        let even' = even-moved m _ _ _ _ (lent ∙ e) even in
+        (even', (omega arith, (b, x ∙ after_next some _ _ even even' _ _ _ h k (lent ∙ e) l b g)))
+
 -- ---- The passes that are left, from runs of n words on.
 unfoldable pub passes_from : ℕ → Words → Words
 passes_from n ws = each pass_words (max_run + 1 - n) n ws

@@ -36,7 +36,7 @@ module _ (ws : Words) where
   unfolding chain
   fine-even h = one-length ((words-exactly ws).1 (fine-none (in_order (of_words ws)) h))
 
-  accept-made : (found : Left) (after : Words) → Collapsing found ws after → output (Ok found) after ≡ accepted (collapse_loops ws) (count ws)
+  pub accept-made : (found : Left) (after : Words) → Collapsing found ws after → output (Ok found) after ≡ accepted (collapse_loops ws) (count ws)
   accept-made found after c =
       let given : left found.count found.found ≡ left (count (collapse_loops ws).words) (collapse_loops ws).found = rw (c.count, c.found) in
       rw c.words (ap (λ (l : Left). output (Ok l) (words_in_places (count ws) (collapse_loops ws).words)) given)

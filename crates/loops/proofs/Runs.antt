@@ -1,6 +1,6 @@
--- Two lists of keys are equal as `==` of the code compares them, key by key; and two runs of keys, compared key by key. Assumes nothing.
-use Prim.Native.Nat.{ℕ, suc, ◌+◌, ◌-◌, ◌≤◌, ◌<◌}
-use mathlib.Core.Path.{◌≡◌, refl, ap}
+-- Two lists of keys are equal as `==` of two lists compares them, key by key; and two runs of keys, compared key by key. Assumes nothing.
+use Prim.Native.Nat.{ℕ, zero, suc, ◌+◌, ◌-◌, ◌≤◌, ◌<◌}
+use mathlib.Core.Path.{◌≡◌, refl, sym, ap, ◌∙◌}
 use mathlib.Core.Bool.{Bool, false, ◌&&◌}
 use mathlib.Core.List.{List, [], ◌∷◌}
 use native.Mathlib.Omega.{arith}
@@ -10,6 +10,7 @@ use lib.ListN.{length, get_or}
 use lib.Seq.{drop-cons}
 use lib.Dec.{eqb}
 use Rattle.std.specs.Cmp.Lexicographic.{pointwise}
+use Rattle.std.specs.List.{list_all, range_with_len}
 use Rattle.loops.specs.Loops.{equal, part, same}
 use Rattle.loops.specs.Parts.{only_keys}
 
@@ -47,3 +48,18 @@ module _ (n : ℕ) (keys : List ℕ) (a b k : ℕ) where
 pub same_first : (n : ℕ) (keys : List ℕ) (a b : ℕ) → same n (only_keys keys) a b ≡ same_from n keys a b 0
 unfolding same same_from
 same_first n keys a b = rw (add-zero a, add-zero b, sub-zero)
+
+-- ---- `all` of the code compares two runs key by key
+unfoldable pub key_same : List ℕ → ℕ → ℕ → ℕ → Bool
+key_same keys a b k = eqb (get_or keys (a + k) 0) (get_or keys (b + k) 0)
+
+module _ (n : ℕ) (keys : List ℕ) (a b : ℕ) (left : a + n ≤ length keys) (right : b + n ≤ length keys) where
+  all-from : (m k : ℕ) → k + m ≡ n → list_all (key_same keys a b) (range_with_len k m) ≡ same_from n keys a b k
+  unfolding key_same same_from equal
+  all-from zero k e = let z : n - k ≡ 0 = omega (arith, e) in rw z refl
+  all-from (suc m) k e =
+      let h : k < n = omega (arith, e) in
+      rw (one_more n keys a b k h a left, one_more n keys a b k h b right) (ap (λ t. eqb (get_or keys (a + k) 0) (get_or keys (b + k) 0) && t) (all-from m (k + 1) (omega (arith, e))))
+
+  pub all-same : list_all (key_same keys a b) (range_with_len 0 n) ≡ same n (only_keys keys) a b
+  all-same = all-from n 0 (omega arith) ∙ sym (same_first n keys a b)

@@ -14,7 +14,7 @@ fn same(keys: &[u32], n: usize, a: usize, b: usize) -> bool
     requires { (a + n ≤ length keys.now) × (b + n ≤ length keys.now) }
     ensures { result ≡ same_of n (only_keys keys.now) a b }
 {
-    keys[a..a + n] == keys[b..b + n]
+    (0..n).all(|k| keys[a + k] == keys[b + k])
 }
 
 // Whether the n keys at i and those from `rest` on begin with three copies.
@@ -40,12 +40,12 @@ fn copies_end(keys: &[u32], n: usize, i: usize, rest: usize) -> usize
 }
 
 // Where the first `len` words go on behind the n at i: behind all their copies, if these are a loop.
-pub(crate) fn past_loop(w: &WordListsMut<'_>, len: usize, n: usize, i: usize, rest: usize) -> usize
-    requires { (0 < n) × ((i + n ≤ rest) × ((rest ≤ len) × (len ≤ length w.now.keys.now))) }
-    ensures { let counted = take len w.now.keys.now in
+pub fn past_loop(keys: &[u32], len: usize, n: usize, i: usize, rest: usize) -> usize
+    requires { (0 < n) × ((i + n ≤ rest) × ((rest ≤ len) × (len ≤ length keys.now))) }
+    ensures { let counted = take len keys.now in
         (i + n + (result - rest) ≡ goes_on n i (held_keys (i + n) rest counted)) × ((rest ≤ result) × (result ≤ len)) }
 {
-    let keys = &w.keys[..len];
+    let keys = &keys[..len];
     if is_loop(keys, n, i, rest) {
         copies_end(keys, n, i, rest)
     } else {
@@ -54,7 +54,7 @@ pub(crate) fn past_loop(w: &WordListsMut<'_>, len: usize, n: usize, i: usize, re
 }
 
 // Puts the word at place `from` at place `to`.
-pub(crate) fn move_word(w: &mut WordListsMut<'_>, to: usize, from: usize)
+pub fn move_word(w: &mut WordListsMut<'_>, to: usize, from: usize)
     requires { (to < length w.old.keys.now) × (from < length w.old.keys.now) }
     ensures same { SameLists w.old w.new }
     ensures moved { words_of w.new ≡ moved to from (words_of w.old) }

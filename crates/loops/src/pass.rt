@@ -18,13 +18,26 @@ fn collapse_runs(w: &mut WordListsMut<'_>, len: usize, n: usize) -> usize
     ensures passed { first_words result (words_of w.new) ≡ pass_words n (first_words len (words_of w.old)) }
     ensures fewer { result ≤ len }
 {
+    // The lists, taken out of the struct once for all turns.
+    let starts = &mut *w.starts;
+    let ends = &mut *w.ends;
+    let letters = &mut *w.letters;
+    let units = &mut *w.units;
+    let keys = &mut *w.keys;
     // Each turn goes on where the call found the next word to stay: no count.
     let mut i = 0;
-    let mut rest = super::copy::past_loop(w, len, n, 0, n);
+    let mut rest = super::copy::past_loop(keys, len, n, 0, n);
     while rest < len {
-        super::copy::move_word(w, i + n, rest);
+        let mut lists = WordListsMut {
+            starts,
+            ends,
+            letters,
+            units,
+            keys,
+        };
+        super::copy::move_word(&mut lists, i + n, rest);
         i += 1;
-        rest = super::copy::past_loop(w, len, n, i, rest + 1);
+        rest = super::copy::past_loop(keys, len, n, i, rest + 1);
     }
     i + n
 }

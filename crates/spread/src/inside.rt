@@ -1,11 +1,9 @@
 // Whether a word is inside its span, and the first and the last word inside (phrase_align.rs, align_phrases).
 ghost use Rattle.std.specs.Prelude.{◌≡◌, ◌<◌, length, unwrap_or, IfSome};
-ghost use Rattle.base.specs.Words.{times_at};
-ghost use Rattle.base.specs.TimedWords.{edges_of};
+ghost use Rattle.base.specs.Words.{edges, times_at};
 ghost use Rattle.spread.specs.Spread.{inside, first_inside, last_inside};
 
 use base::Times;
-use base::timed_words::TimedWords;
 
 // A word so many seconds outside its span, or fewer, is inside.
 const EDGE_SLACK: f64 = 0.02;
@@ -22,28 +20,33 @@ fn is_inside(span: Times, w: Times) -> bool
 }
 
 // Whether word i is inside.
-pub(crate) fn inside_at(w: &TimedWords<'_>, span: Times, i: usize) -> bool
-    requires { i < length w.now.starts.now }
-    ensures { result ≡ inside span.start span.end (times_at (edges_of w.now) i) }
+pub fn inside_at(starts: &[f64], ends: &[f64], span: Times, i: usize) -> bool
+    requires { (i < length starts.now) × (length ends.now ≡ length starts.now) }
+    ensures { result ≡ inside span.start span.end (times_at (edges starts.now ends.now) i) }
 {
-    is_inside(span, w.at(i))
+    let w = Times {
+        start: starts[i],
+        end: ends[i],
+    };
+    is_inside(span, w)
 }
 
 // The first word inside, if there is one.
-pub(crate) fn first_inside(w: &TimedWords<'_>, span: Times) -> Option<usize>
-    ensures { let len = length w.now.starts.now in
-        (unwrap_or result len ≡ first_inside span.start span.end (edges_of w.now)) × IfSome result (λ i. i < len) }
+pub fn first_inside(starts: &[f64], ends: &[f64], span: Times) -> Option<usize>
+    requires { length ends.now ≡ length starts.now }
+    ensures { let len = length starts.now in
+        (unwrap_or result len ≡ first_inside span.start span.end (edges starts.now ends.now)) × IfSome result (λ i. i < len) }
 {
-    (0..w.starts.len()).find(|&i| inside_at(w, span, i))
+    (0..starts.len()).find(|&i| inside_at(starts, ends, span, i))
 }
 
 // The last word inside; some word is.
-pub(crate) fn last_inside(w: &TimedWords<'_>, span: Times) -> usize
-    requires { 0 < length w.now.starts.now }
-    ensures { (result ≡ last_inside span.start span.end (edges_of w.now)) × (result < length w.now.starts.now) }
+pub fn last_inside(starts: &[f64], ends: &[f64], span: Times) -> usize
+    requires { (0 < length starts.now) × (length ends.now ≡ length starts.now) }
+    ensures { (result ≡ last_inside span.start span.end (edges starts.now ends.now)) × (result < length starts.now) }
 {
-    (1..w.starts.len())
+    (1..starts.len())
         .rev()
-        .find(|&i| inside_at(w, span, i))
+        .find(|&i| inside_at(starts, ends, span, i))
         .unwrap_or(0)
 }

@@ -19,7 +19,10 @@ fn place_stray(w: &mut TimedWords<'_>, span: Times, i: usize)
     ensures same { SameLists w.old w.new }
     ensures placed { edges_of w.new ≡ between_turn span.start span.end i (edges_of w.old) }
 {
-    if inside::inside_at(w, span, i) {
+    // The times are only read: lent on their own, they are known to stay.
+    let starts = &mut *w.starts;
+    let ends = &mut *w.ends;
+    if inside::inside_at(starts, ends, span, i) {
         return;
     }
     let start = w.ends[i - 1];
@@ -44,7 +47,10 @@ fn place_around(w: &mut TimedWords<'_>, span: Times, first: usize)
     ensures same { SameLists w.old w.new }
     ensures placed { edges_of w.new ≡ place_around w.old.weights.now span.start span.end first (edges_of w.old) }
 {
-    let last = inside::last_inside(w, span);
+    // The times are only read: lent on their own, they are known to stay.
+    let starts = &mut *w.starts;
+    let ends = &mut *w.ends;
+    let last = inside::last_inside(starts, ends, span);
     by_letters::spread_before(w, span.start, first);
     by_letters::spread_after(w, span.end, last);
     place_between(w, span, first, last);
@@ -57,13 +63,15 @@ pub fn place_group(starts: &mut [f64], ends: &mut [f64], letters: &[u32], span: 
         let after = edges starts.new ends.new in
         after ≡ place_group letters.now span.start span.end before }
 {
-    let mut w = TimedWords {
-        starts,
-        ends,
-        weights: letters,
-    };
-    match inside::first_inside(&w, span) {
-        Some(first) => place_around(&mut w, span, first),
+    match inside::first_inside(starts, ends, span) {
+        Some(first) => {
+            let mut w = TimedWords {
+                starts,
+                ends,
+                weights: letters,
+            };
+            place_around(&mut w, span, first)
+        }
         None => by_letters::spread(starts, ends, letters, span.start, span.end),
     }
 }

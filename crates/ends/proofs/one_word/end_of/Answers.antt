@@ -10,4 +10,4 @@ use Rattle.ends.proofs.one_word.end_of.Goals as goal
 pub returns : goal.returns
 returns c =
     end_of_is _ _ _ _ _ c.between-r.ensures.0 (c.between-r.ensures.1 ∙ ap (min _) (ap (λ (x : Float). to_nat (frame_at x)) c.reach.ensures))
-    c.sound_end-sound.ensures c.or_duration.ensures c.trim.ensures
+    c.sound_end_in-sound.ensures c.or_duration.ensures c.trim.ensures

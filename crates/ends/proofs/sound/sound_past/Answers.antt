@@ -5,12 +5,12 @@ use Rattle.ends.proofs.sound.sound_past.Goals as goal
 
 pub returns-in_default : goal.returns-in_default
 returns-in_default c =
-    let inv = c.loop-past.invariant in (stops-here _ _ _ _ (omega arith) c.min.ensures inv.1.1 (omega arith) inv.1.0 c.in_default.ensures, omega arith)
+    let inv = c.loop-past.invariant in (stops-here _ _ _ _ (omega arith) c.min.ensures inv.1.1 (omega arith) inv.1.0 c.in_default.ensures.found, omega arith)
 
 pub loop-past-preserved : goal.loop-past-preserved
 loop-past-preserved c =
     let inv = c.loop-past.invariant in
-    let m = c.in-Some.ensures in
+    let m = c.in-Some.ensures.found in
     let f = m.from in
     let t = m.to in
     let l = c.min.ensures in

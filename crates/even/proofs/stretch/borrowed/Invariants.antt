@@ -1,5 +1,5 @@
 use Rattle.std.proofs.Common.{◌≡◌, ◌<◌, ◌≤◌, ℕ, true}
-use Rattle.base.specs.TimedWords.{edges_of}
+use Rattle.even.specs.WeighedWords.{edges_of}
 use Rattle.even.specs.Even.{borrows}
 use Rattle.even.proofs.stretch.borrowed.Given as goal
 

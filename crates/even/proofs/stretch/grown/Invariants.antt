@@ -1,6 +1,6 @@
 use Rattle.std.proofs.Common.{◌≡◌, ◌<◌, ◌≤◌, ℕ, true, get_or}
 use Rattle.std.specs.Float.{nan}
-use Rattle.base.specs.TimedWords.{edges_of}
+use Rattle.even.specs.WeighedWords.{edges_of}
 use Rattle.even.specs.Even.{grows}
 use Rattle.even.proofs.stretch.grown.Given as goal
 

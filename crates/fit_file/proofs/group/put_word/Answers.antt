@@ -4,8 +4,8 @@ use native.Mathlib.Omega.{arith}
 use Rattle.fit_file.proofs.Members.{stored, left}
 use Rattle.fit_file.proofs.group.put_word.Goals as goal
 
-pub returns-then-p-w-clause-put : goal.returns-then-p-w-clause-put
-returns-then-p-w-clause-put c = ((λ members es at. stored _ _ _ members _ es _ _ _ at (sym c.if-p-w.true) (omega arith) (omega arith)), omega arith)
+pub returns-then-p-phrases : goal.returns-then-p-phrases
+returns-then-p-phrases c = ((λ members es at. stored _ _ _ members _ es _ _ _ at (sym c.if-p-phrases.true) (omega arith) (omega arith)), omega arith)
 
-pub returns-clause-put : goal.returns-clause-put
-returns-clause-put c = ((λ members es at. left _ _ _ members _ es _ _ _ at (λ e. c.if-p-w.false (sym e))), omega arith)
+pub returns : goal.returns
+returns c = ((λ members es at. left _ _ _ members _ es _ _ _ at (λ e. c.if-p-phrases.false (sym e))), omega arith)

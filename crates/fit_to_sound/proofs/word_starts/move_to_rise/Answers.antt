@@ -1,7 +1,8 @@
 -- `fit_to_sound::word_starts::move_to_rise` meets its contract: the words left from i give what the whole list gives. Assumes nothing.
-use borrow.Author.Rules.{rules}
 use native.Mathlib.Omega.{arith}
 use mathlib.Core.Path.{refl, sym, ◌∙◌}
+use lib.ListN.{length-set}
+use Rattle.base.specs.Words.{edges}
 use Rattle.base.proofs.Loops.{each_start, each_next, each-done}
 use Rattle.fit_to_sound.specs.FitToSound.{move_to_rise}
 use Rattle.fit_to_sound.proofs.Starts.{rise-turn}
@@ -9,10 +10,16 @@ use Rattle.fit_to_sound.proofs.word_starts.move_to_rise.Goals as goal
 
 pub loop-i-init : goal.loop-i-init
 unfolding move_to_rise
-loop-i-init c = ((refl, (refl, refl)), (refl, each_start _ _ _))
+loop-i-init c = (refl, (refl, each_start _ _ _))
 
 pub loop-i-preserved : goal.loop-i-preserved
-loop-i-preserved c = (search rules, (search rules, c.loop-i.invariant.1.1 ∙ each_next _ _ _ (omega arith) (rise-turn _ _ _ c.start_after-next.ensures c.at.ensures c.rise_of-t.ensures c.put.ensures.moved)))
+loop-i-preserved c = (
+  simp length-set (omega arith),
+  (
+    simp length-set (omega arith),
+    c.loop-i.invariant.1.1 ∙ each_next _ _ _ (omega arith) (rise-turn _ (edges c.loop-i.starts c.loop-i.ends) _ c.next_start-next.ensures refl c.rise_of-w.ensures refl),
+  ),
+)
 
-pub returns-clause-moved : goal.returns-clause-moved
-returns-clause-moved c = sym (c.loop-i.invariant.1.1 ∙ each-done _ _ _ _ (omega arith))
+pub returns : goal.returns
+returns c = sym (c.loop-i.invariant.1.1 ∙ each-done _ _ _ _ (omega arith))

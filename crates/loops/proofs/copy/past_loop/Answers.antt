@@ -7,11 +7,11 @@ use Rattle.loops.proofs.copy.past_loop.Goals as goal
 pub returns-then-is_loop : goal.returns-then-is_loop
 returns-then-is_loop c = (
   goes-behind _ _ _ _ (omega arith) (omega arith) c.is_loop.ensures c.if-is_loop.true c.copies_end.ensures.0,
-  (c.copies_end.ensures.1.0, omega (arith, length-take-le c.args.len c.args.w.now.keys.now)),
+  (c.copies_end.ensures.1.0, omega (arith, length-take-le c.args.len c.args.keys.now)),
 )
 
 pub returns-else-is_loop : goal.returns-else-is_loop
 returns-else-is_loop c = (
-  goes_on_lem _ _ _ _ (omega arith) (omega (arith, length-take-le c.args.len c.args.w.now.keys.now)) c.is_loop.ensures c.if-is_loop.false,
+  goes_on_lem _ _ _ _ (omega arith) (omega (arith, length-take-le c.args.len c.args.keys.now)) c.is_loop.ensures c.if-is_loop.false,
   (omega arith, omega arith),
 )
