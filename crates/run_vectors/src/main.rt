@@ -71,7 +71,8 @@ impl RowKind for Kind {
 
     fn is_right(self, a: u64, b: u64, r: u64) -> bool {
         let digits = digits(a);
-        let samples = samples(b, digits[15]);
+        let mut samples = [0.0; SAMPLES];
+        set_samples(&mut samples, b, digits[15]);
         let folded = match self {
             Kind::InSpans | Kind::Planted => run(&samples, &digits, 4, 2),
             Kind::WithoutSpans => run(&samples, &digits, 4, 0),
@@ -86,19 +87,18 @@ fn time(digit: u32) -> f64 {
     f64::from(digit) / 20.0
 }
 
-// The samples of a recording, of which the first is no number where the row's digit says so.
-fn samples(recording: u64, first: u32) -> [f32; SAMPLES] {
-    let mut samples = array::from_fn(|i| if is_loud(recording, i / HOP) {
-        0.5
-    } else {
-        0.0
-    });
+// The samples of a recording, over silence: each loud frame's; the first is no number where the row's digit says so.
+fn set_samples(samples: &mut [f32; SAMPLES], recording: u64, first: u32) {
+    for k in 0..SAMPLES / HOP {
+        if is_loud(recording, k) {
+            samples[k * HOP..(k + 1) * HOP].fill(0.5);
+        }
+    }
     match first {
         1 => samples[0] = f32::NAN,
         2 => samples[0] = f32::INFINITY,
         _ => {}
     }
-    samples
 }
 
 // Numbers folded into 64 bits.

@@ -112,7 +112,11 @@ fn count_all<K: RowKind, R: Read>(
         let judged = match read_row(input, &mut row)? {
             0 => break,
             ROW => judge(kinds, &row),
-            _ => None,
+            _ => {
+                // The input ended within this row: it is the last.
+                unreadable = unreadable.saturating_add(1);
+                break;
+            }
         };
         match judged {
             Some((place, right)) => counts[place].add(right),

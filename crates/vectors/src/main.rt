@@ -105,7 +105,8 @@ impl RowKind for Kind {
             Kind::FrameSeconds => has_bits(frames::frame_seconds(a.cast_signed()), r),
             Kind::Pieces => {
                 let end = cut((a >> 32) as usize, (a & 0xffff_ffff) as usize, b as usize);
-                end == Some(r as usize)
+                // A row with no first piece has 0 for its end.
+                end.unwrap_or(0) == r as usize
             }
         }
     }
