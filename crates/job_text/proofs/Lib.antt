@@ -1,3 +1,4 @@
 -- Laws of the writers.
+pub mod Places
 pub mod Writing
 mod Cases

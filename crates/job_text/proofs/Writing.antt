@@ -4,14 +4,15 @@ use mathlib.Core.List.{List, [], ◌∷◌, ◌++◌, append-nil, append_assoc}
 use mathlib.Core.Path.{◌≡◌, refl, sym, ap, ◌∙◌}
 use native.Mathlib.Omega.{arith}
 use borrow.Author.Tests.{lt-ltb, le-ltb, eq-eqb, ne_eqb}
-use lib.ListN.{length, take, set, get_or, length-append}
+use lib.ListN.{length, take, set, get_or}
 use lib.Seq.{take-suc-set, take-suc, take_all}
 use Rattle.base.specs.Loop.{each}
 use Rattle.base.proofs.Loops.{each_last}
 use lib.Ieee.{Float, nan}
 use Rattle.job_text.specs.Text.{digit, space, newline, dash, piece_text, word_text, refused_text, decimal_in, decimal, hex_in, bits_of, refused_line, piece_line, phrase_text, word_line, lines, piece_lines, word_lines}
 use Rattle.job_text.specs.declared.writer.Writer.{Writer}
-use Rattle.job_text.specs.Parts.{Wrote}
+use Rattle.job_text.specs.Parts.{Wrote, WroteAt}
+use Rattle.job_text.proofs.Places.{then as then_at}
 
 -- ---- nothing, and one text after another
 pub nothing : (x : Writer) → Wrote [] x x
@@ -22,14 +23,15 @@ nothing x = record {
   here = sym (append-nil (take x.at x.bytes.now));
 }
 
+-- the lists and places of two writers
+list-wrote : {a : List ℕ} {x y : Writer} → Wrote a x y → WroteAt a x.at x.bytes.now y.bytes.now y.at
+list-wrote p = record { end = p.end; here = p.here }
+
 module _ {a b : List ℕ} {x y z : Writer} where
   pub then : Wrote a x y → Wrote b y z → Wrote (a ++ b) x z
-  then p q = record {
-    same = p.same ∙ q.same;
-    places = q.places ∙ p.places;
-    end = let l = length-append a b in omega (arith, p.end, q.end, l);
-    here = q.here ∙ ap (λ (l : List ℕ). l ++ b) p.here ∙ append_assoc (take x.at x.bytes.now) a b;
-  }
+  then p q =
+      let w = then_at (list-wrote p) (list-wrote q) in
+      record { same = p.same ∙ q.same; places = q.places ∙ p.places; end = w.end; here = w.here }
 
 -- ---- a text, byte for byte: so many of its bytes stand from place `at` on
 pub record Copied (text before : List ℕ) (at i : ℕ) (out : List ℕ) : Type 0 where
