@@ -9,23 +9,23 @@ loud_in e = loud_row e.floor e.levels.now
 abbrev pub quiet_in : Envelope → List Bool
 quiet_in e = quiet_row e.floor e.levels.now
 
--- ======== The searches of onsets.rs and fit.rs
+-- ======== The searches
 
--- ---- loud(k) == want
+-- ---- env.loud(k), where `want` is true; !env.loud(k), where it is false (onsets.rs)
 abbrev pub wanted : List Bool → Bool → ℕ → Bool
 wanted row want k = cond want (loud row (pos k)) (not (loud row (pos k)))
 
--- ---- Of n frames from frame k on, the first that is loud, where `want` is true, or that is not, where it is false.
+-- ---- (k..k + n).find(|&k| env.loud(k)), or of !env.loud(k) (onsets.rs)
 unfoldable pub first_of : List Bool → Bool → ℕ → ℕ → Option ℕ
 first_of row want zero k = None
 first_of row want (suc n) k = cond (wanted row want k) (Some k) (first_of row want n (suc k))
 
--- ---- Of n frames from frame k on, the last that is loud.
+-- ---- (k..k + n).rev().find(|&k| env.loud(k)): no line of the Rust; a sound that goes on is looked for from the back
 unfoldable pub last_of : List Bool → ℕ → ℕ → Option ℕ
 last_of row zero k = None
 last_of row (suc n) k = cond (loud row (pos (k + n))) (Some (k + n)) (last_of row n k)
 
--- ---- The first such frame from lo to before hi, and the last loud one.
+-- ---- (lo..hi).find(..) and (lo..hi).rev().find(..)
 abbrev pub first_frame : List Bool → Bool → ℕ → ℕ → Option ℕ
 first_frame row want lo hi = first_of row want (hi - lo) lo
 
